@@ -1,0 +1,490 @@
+/* Tests tracksaddle_find_component from the C side: every answer of the header,
+ * over lent tables of 0 to 4 entries between canaries. Each message is lent
+ * twice: in a heap buffer of exactly its length, for the address sanitizer, and
+ * right before a page that nobody may read. The sanitizer does not see what the
+ * archive's own code reads; the page stops it. c/run_tests builds and runs this.
+ */
+#define _DEFAULT_SOURCE /* mmap and its flags */
+#include "tracksaddle.h"
+
+#include <stdio.h>
+#include <stdlib.h>
+#include <string.h>
+#include <sys/mman.h>
+#include <unistd.h>
+
+enum { LONGEST_TABLE = 4, MARGIN = 2, TABLE_ROOM = MARGIN + LONGEST_TABLE + MARGIN };
+
+/* No offset or length of any message here. */
+static const size_t canary = SIZE_MAX / 3;
+
+static unsigned long checks_made;
+static unsigned long checks_failed;
+
+/* One question and its right answer. */
+struct lookup {
+    size_t at;
+    size_t element;
+    size_t component;
+    size_t offset;
+    size_t length;
+};
+
+/* Where in this file a check stands. */
+struct source {
+    const char *file;
+    int line;
+};
+
+#define HERE ((struct source){__FILE__, __LINE__})
+
+/* A message, wherever it lies. */
+struct message {
+    const uint8_t *bytes;
+    size_t length;
+};
+
+static void give_up(const char *reason)
+{
+    fprintf(stderr, "test_find_component: %s\n", reason);
+    exit(2);
+}
+
+static void *allocate(size_t size)
+{
+    void *memory = malloc(size);
+    if (memory == NULL) {
+        give_up("out of memory");
+    }
+    return memory;
+}
+
+/* The end of one page that may be written, before one that may not be touched. */
+static uint8_t *map_guarded_page(size_t page_size)
+{
+    uint8_t *pages = mmap(NULL, 2 * page_size, PROT_READ | PROT_WRITE,
+                          MAP_PRIVATE | MAP_ANONYMOUS, -1, 0);
+    if (pages == MAP_FAILED || mprotect(pages + page_size, page_size, PROT_NONE) != 0) {
+        give_up("no guarded page");
+    }
+    return pages + page_size;
+}
+
+/* A copy that ends where nothing may be read any more. The next copy replaces
+ * it. */
+static struct message copy_before_the_guard(struct message message)
+{
+    static uint8_t *guard;
+    size_t page_size = (size_t)sysconf(_SC_PAGESIZE);
+    struct message copy;
+    if (guard == NULL) {
+        guard = map_guarded_page(page_size);
+    }
+    if (message.length > page_size) {
+        give_up("a message longer than a page");
+    }
+    copy.length = message.length;
+    copy.bytes = memcpy(guard - message.length, message.bytes, message.length);
+    return copy;
+}
+
+static void print_bytes(const uint8_t *bytes, size_t length)
+{
+    const size_t longest_printed = 100;
+    for (size_t i = 0; i < length && i < longest_printed; i++) {
+        if (bytes[i] >= 0x20 && bytes[i] <= 0x7E) {
+            printf("%c", bytes[i]);
+        } else {
+            printf("\\x%02X", bytes[i]);
+        }
+    }
+    printf("%s (%zu bytes)\n", length > longest_printed ? "..." : "", length);
+}
+
+static void print_failure(struct source source, struct message message,
+                          struct lookup lookup, size_t table_length,
+                          const size_t *expected, const size_t *found)
+{
+    printf("%s:%d: at %zu, element %zu, component %zu, table of %zu entries\n",
+           source.file, source.line, lookup.at, lookup.element, lookup.component,
+           table_length);
+    for (size_t i = 0; i < TABLE_ROOM; i++) {
+        if (expected[i] != found[i]) {
+            printf("  part[%d] should be %zu%s and is %zu\n", (int)i - MARGIN,
+                   expected[i], expected[i] == canary ? " (untouched)" : "",
+                   found[i]);
+        }
+    }
+    printf("  message: ");
+    print_bytes(message.bytes, message.length);
+}
+
+static void fill_with_canaries(size_t *table)
+{
+    for (size_t i = 0; i < TABLE_ROOM; i++) {
+        table[i] = canary;
+    }
+}
+
+/* One call with a table of one length. */
+static void check_table(struct source source, struct message message,
+                        struct lookup lookup, size_t table_length)
+{
+    size_t expected[TABLE_ROOM];
+    size_t found[TABLE_ROOM];
+    fill_with_canaries(expected);
+    fill_with_canaries(found);
+    if (table_length > 0) {
+        expected[MARGIN] = lookup.offset;
+    }
+    if (table_length > 1) {
+        expected[MARGIN + 1] = lookup.length;
+    }
+    tracksaddle_find_component(message.bytes, message.length, lookup.at,
+                               lookup.element, lookup.component, found + MARGIN,
+                               table_length);
+    checks_made++;
+    if (memcmp(expected, found, sizeof found) != 0) {
+        checks_failed++;
+        print_failure(source, message, lookup, table_length, expected, found);
+    }
+}
+
+static void check_unchanged(struct source source, struct message lent,
+                            struct message original)
+{
+    checks_made++;
+    if (memcmp(lent.bytes, original.bytes, original.length) != 0) {
+        checks_failed++;
+        printf("%s:%d: the message itself was changed\n", source.file, source.line);
+    }
+}
+
+/* The lookup in a lent copy, with a table of every length. */
+static void check_lent(struct source source, struct message lent,
+                       struct message original, struct lookup lookup)
+{
+    for (size_t entries = 0; entries <= LONGEST_TABLE; entries++) {
+        check_table(source, lent, lookup, entries);
+    }
+    check_unchanged(source, lent, original);
+}
+
+static void check_on_the_heap(struct source source, struct message original,
+                              struct lookup lookup)
+{
+    /* malloc(0) may be null, which the header forbids: an empty message lies at
+     * the end of one byte that is not its own. */
+    size_t not_its_own = original.length == 0 ? 1 : 0;
+    uint8_t *allocation = allocate(original.length + not_its_own);
+    struct message lent = {allocation + not_its_own, original.length};
+    memcpy(allocation + not_its_own, original.bytes, original.length);
+    check_lent(source, lent, original, lookup);
+    free(allocation);
+}
+
+static void check(struct source source, struct message message, size_t at,
+                  size_t element, size_t component, size_t offset, size_t length)
+{
+    struct lookup lookup = {at, element, component, offset, length};
+    check_on_the_heap(source, message, lookup);
+    check_lent(source, copy_before_the_guard(message), message, lookup);
+}
+
+/* A literal text as a message. */
+#define MESSAGE(text) ((struct message){(const uint8_t *)(text), sizeof(text) - 1})
+
+/* The component lies at this offset and has this length. */
+#define FOUND(text, at, element, component, offset, length) \
+    check(HERE, MESSAGE(text), at, element, component, offset, length)
+
+/* The empty part at the message's end comes back. */
+#define NOWHERE(text, at, element, component) \
+    check(HERE, MESSAGE(text), at, element, component, sizeof(text) - 1, 0)
+
+static void test_the_example_in_the_header(void)
+{
+    FOUND("AAA+B:?'C++D'", 0, 1, 2, 6, 3);
+    FOUND("AAA+B:?'C++D'", 0, 2, 1, 10, 0);
+    FOUND("AAA+B:?'C++D'", 0, 3, 1, 11, 1);
+    FOUND("AAA+B:?'C++D'", 0, 3, 2, 12, 0);
+    FOUND("AAA+B:?'C++D'", 0, 0, 1, 13, 0);
+}
+
+static void test_good_segments(void)
+{
+    FOUND("LIN+1++9990001000160:Z02::293'", 0, 1, 1, 4, 1);
+    FOUND("LIN+1++9990001000160:Z02::293'", 0, 3, 1, 7, 13);
+    FOUND("LIN+1++9990001000160:Z02::293'", 0, 3, 2, 21, 3);
+    FOUND("LIN+1++9990001000160:Z02::293'", 0, 3, 4, 26, 3);
+    FOUND("UNH+1'BGM+7'RFF+Z13:10001'", 12, 1, 2, 20, 5);
+    FOUND("019+x'", 0, 1, 1, 4, 1);
+    FOUND("A0Z+a b'", 0, 1, 1, 4, 3);
+}
+
+static void test_present_empty_components(void)
+{
+    FOUND("AAA+'", 0, 1, 1, 4, 0);
+    FOUND("AAA+:'", 0, 1, 1, 4, 0);
+    FOUND("AAA+:'", 0, 1, 2, 5, 0);
+    FOUND("AAA++B'", 0, 1, 1, 4, 0);
+    FOUND("AAA++B'", 0, 2, 1, 5, 1);
+    FOUND("AAA+B::C+'", 0, 1, 2, 6, 0);
+    FOUND("AAA+B::C+'", 0, 2, 1, 9, 0);
+}
+
+static void test_absent_components(void)
+{
+    FOUND("UNS'", 0, 1, 1, 3, 0);
+    FOUND("UNS'", 0, 7, 9, 3, 0);
+    FOUND("UNS'UNT+2+1'", 0, 1, 1, 3, 0);
+    FOUND("AAA+B'CCC+D+E'", 0, 2, 1, 5, 0);
+    FOUND("AAA+B'CCC+D+E'", 0, 1, 2, 5, 0);
+    FOUND("AAA+B+C:D'", 0, 1, 2, 9, 0);
+    FOUND("AAA+B+C:D'", 0, 3, 2, 9, 0);
+    FOUND("AAA+B'", 0, SIZE_MAX, 1, 5, 0);
+    FOUND("AAA+B'", 0, 1, SIZE_MAX, 5, 0);
+    FOUND("AAA+B'", 0, SIZE_MAX, SIZE_MAX, 5, 0);
+}
+
+static void test_number_zero(void)
+{
+    NOWHERE("AAA+B'CCC'", 0, 0, 1);
+    NOWHERE("AAA+B'CCC'", 0, 1, 0);
+    NOWHERE("AAA+B'CCC'", 0, 0, 0);
+    NOWHERE("AAA+B'CCC'", 0, 2, 0);
+    NOWHERE("AAA+B'CCC'", 0, 0, SIZE_MAX);
+    NOWHERE("UNS'CCC'", 0, 0, 1);
+    NOWHERE("UNS'CCC'", 0, 1, 0);
+}
+
+/* Each ? of a pair is written \?: C reads two of them before a quote as another
+ * character. */
+static void test_released_bytes(void)
+{
+    FOUND("AAA+?'B'CCC+D'", 0, 1, 1, 4, 3);
+    FOUND("AAA+?'B'CCC+D'", 0, 2, 1, 7, 0);
+    FOUND("AAA+B\?\?'CCC+D'", 0, 1, 1, 4, 3);
+    FOUND("AAA+B\?\?'CCC+D'", 0, 2, 1, 7, 0);
+    FOUND("AAA+B\?\?\?'C'DDD'", 0, 1, 1, 4, 6);
+    FOUND("AAA+B\?\?\?\?'DDD'", 0, 1, 1, 4, 5);
+    FOUND("AAA+?+B+C'", 0, 1, 1, 4, 3);
+    FOUND("AAA+?+B+C'", 0, 2, 1, 8, 1);
+    FOUND("AAA+?:B:C'", 0, 1, 1, 4, 3);
+    FOUND("AAA+?:B:C'", 0, 1, 2, 8, 1);
+    FOUND("AAA+\?\?+C'", 0, 2, 1, 7, 1);
+    FOUND("AAA+\?\?:C'", 0, 1, 2, 7, 1);
+}
+
+static void test_release_faults(void)
+{
+    NOWHERE("AAA+?B'", 0, 1, 1);
+    NOWHERE("AAA+? '", 0, 1, 1);
+    NOWHERE("AAA+B:\?\?\?C'", 0, 1, 1);
+    NOWHERE("AAA+B?", 0, 1, 1);
+    NOWHERE("AAA+B?'", 0, 1, 1);
+    NOWHERE("AAA?+B'", 0, 1, 1);
+    NOWHERE("A?AA+B'", 0, 1, 1);
+}
+
+/* The segment at an offset is looked for there and nowhere else. */
+static void test_offsets_inside_the_message(void)
+{
+    FOUND("AAA+BBB+C'", 4, 1, 1, 8, 1);
+    FOUND("AAA+?'BBB'", 6, 1, 1, 9, 0);
+    FOUND("AAA+?+BBB+C'", 6, 1, 1, 10, 1);
+    FOUND("AAAA+B'", 1, 1, 1, 5, 1);
+    NOWHERE("AAA+BBB+C'", 1, 1, 1);
+    NOWHERE("AAA+BBB+C'", 3, 1, 1);
+    NOWHERE("AAA+BBB+C'", 5, 1, 1);
+    NOWHERE("AAA+BBB+C'", 9, 1, 1);
+    NOWHERE("AAA+?'BBB'", 5, 1, 1);
+    NOWHERE("AAA+B'CCC'", 5, 1, 1);
+}
+
+static void test_offsets_at_and_past_the_end(void)
+{
+    NOWHERE("AAA+B'", 6, 1, 1);
+    NOWHERE("AAA+B'", 7, 1, 1);
+    NOWHERE("AAA+B'", 256, 1, 1);
+    NOWHERE("AAA+B'", 65536, 1, 1);
+#if SIZE_MAX > 0xFFFFFFFF
+    NOWHERE("AAA+B'", (size_t)0xFFFFFFFF + 1, 1, 1);
+#endif
+    NOWHERE("AAA+B'", SIZE_MAX / 2, 1, 1);
+    NOWHERE("AAA+B'", SIZE_MAX - 5, 1, 1);
+    NOWHERE("AAA+B'", SIZE_MAX - 1, 1, 1);
+    NOWHERE("AAA+B'", SIZE_MAX, 1, 1);
+    NOWHERE("AAA+B'", SIZE_MAX, 0, SIZE_MAX);
+}
+
+static void test_empty_messages(void)
+{
+    NOWHERE("", 0, 1, 1);
+    NOWHERE("", 0, 0, 0);
+    NOWHERE("", 1, 1, 1);
+    NOWHERE("", SIZE_MAX, SIZE_MAX, SIZE_MAX);
+}
+
+static void test_what_lies_around_does_not_matter(void)
+{
+    FOUND("\r\n\r\nAAA+B'", 4, 1, 1, 8, 1);
+    FOUND("?AAA+B'", 1, 1, 1, 5, 1);
+    FOUND("AAA+B'\r\nCCC", 0, 1, 1, 4, 1);
+    FOUND("AAA+B'\r\nCCC", 0, 2, 1, 5, 0);
+    FOUND("AAA+B'''", 0, 1, 2, 5, 0);
+    FOUND("AAA+B'\0\xFF?", 0, 1, 1, 4, 1);
+}
+
+static void test_messages_cut_short(void)
+{
+    NOWHERE("A", 0, 1, 1);
+    NOWHERE("AA", 0, 1, 1);
+    NOWHERE("AAA", 0, 1, 1);
+    NOWHERE("AAA+", 0, 1, 1);
+    NOWHERE("AAA+B", 0, 1, 1);
+    NOWHERE("AAA+B:", 0, 1, 2);
+    NOWHERE("AAA+B+", 0, 1, 1);
+    FOUND("AAA+B'CCC+D", 0, 1, 1, 4, 1);
+    NOWHERE("AAA+B'CCC+D", 6, 1, 1);
+}
+
+static void test_tags(void)
+{
+    NOWHERE("AaA+B'", 0, 1, 1);
+    NOWHERE("AA+B'", 0, 1, 1);
+    NOWHERE("AAAA+B'", 0, 1, 1);
+    NOWHERE("AAA:B'", 0, 1, 1);
+    NOWHERE("+AA+B'", 0, 1, 1);
+    NOWHERE("'", 0, 1, 1);
+    NOWHERE(" AAA+B'", 0, 1, 1);
+}
+
+static int is_tag_byte(int byte)
+{
+    return (byte >= 'A' && byte <= 'Z') || (byte >= '0' && byte <= '9');
+}
+
+static int is_data(int byte)
+{
+    return (byte >= 0x20 && byte <= 0x7E) || byte >= 0xA0;
+}
+
+static int is_mark(int byte)
+{
+    return byte == ':' || byte == '+' || byte == '\'' || byte == '?';
+}
+
+enum { LONGEST_PATTERN = 16 };
+
+/* The component in the pattern with its `*` replaced by the byte, or nowhere if
+ * the byte is not allowed there. */
+static void check_byte(struct source source, const char *pattern, int byte,
+                       int is_allowed, size_t offset, size_t length)
+{
+    uint8_t text[LONGEST_PATTERN];
+    struct message message = {text, strlen(pattern)};
+    memcpy(text, pattern, message.length);
+    text[strcspn(pattern, "*")] = (uint8_t)byte;
+    if (is_allowed) {
+        check(source, message, 0, 1, 1, offset, length);
+    } else {
+        check(source, message, 0, 1, 1, message.length, 0);
+    }
+}
+
+static void test_every_byte_in_every_place(void)
+{
+    for (int byte = 0; byte <= 0xFF; byte++) {
+        check_byte(HERE, "*AA+B'", byte, is_tag_byte(byte), 4, 1);
+        check_byte(HERE, "A*A+B'", byte, is_tag_byte(byte), 4, 1);
+        check_byte(HERE, "AA*+B'", byte, is_tag_byte(byte), 4, 1);
+        check_byte(HERE, "AAA+B?*C'", byte, is_mark(byte), 4, 4);
+        if (!is_mark(byte)) {
+            check_byte(HERE, "AAA*B'", byte, 0, 0, 0);
+            check_byte(HERE, "AAA+*'", byte, is_data(byte), 4, 1);
+            check_byte(HERE, "AAA+B*C:D'", byte, is_data(byte), 4, 3);
+            check_byte(HERE, "AAA+B:*'", byte, is_data(byte), 4, 1);
+        }
+    }
+}
+
+enum { MANY = 300, LONGEST_VALUE = 3 };
+
+/* A segment of 300 parts `x` to `xxx`, each after a mark, and where they lie. */
+struct wide_segment {
+    uint8_t text[sizeof("AAA'") + MANY * (1 + LONGEST_VALUE)];
+    size_t length;
+    size_t offsets[MANY];
+    size_t lengths[MANY];
+};
+
+static void fill_wide_segment(struct wide_segment *wide, char mark)
+{
+    size_t at = strlen("AAA");
+    memcpy(wide->text, "AAA", at);
+    for (size_t i = 0; i < MANY; i++) {
+        wide->text[at++] = (uint8_t)(i == 0 ? '+' : mark);
+        wide->offsets[i] = at;
+        wide->lengths[i] = 1 + i % LONGEST_VALUE;
+        memset(wide->text + at, 'x', wide->lengths[i]);
+        at += wide->lengths[i];
+    }
+    wide->text[at++] = '\'';
+    wide->length = at;
+}
+
+/* Asks for the element or the component of this number. */
+static void check_number(struct source source, const struct wide_segment *wide,
+                         char mark, size_t number)
+{
+    struct message message = {wide->text, wide->length};
+    size_t element = mark == '+' ? number : 1;
+    size_t component = mark == '+' ? 1 : number;
+    if (number <= MANY) {
+        check(source, message, 0, element, component, wide->offsets[number - 1],
+              wide->lengths[number - 1]);
+    } else {
+        check(source, message, 0, element, component, wide->length - 1, 0);
+    }
+}
+
+/* Beyond MANY stand numbers that equal a small one in 8, 16 or 32 bits. */
+static void test_numbers_beyond_255(char mark)
+{
+    const size_t numbers[] = {
+        1, 2, 44, 254, 255, 256, 257, MANY - 1, MANY, MANY + 1, 511, 512, 513,
+        65535, 65536, 65537, 0xFFFFFFFF, SIZE_MAX / 2 + 2, SIZE_MAX,
+#if SIZE_MAX > 0xFFFFFFFF
+        (size_t)0xFFFFFFFF + 1, (size_t)0xFFFFFFFF + 2,
+#endif
+    };
+    struct wide_segment wide;
+    fill_wide_segment(&wide, mark);
+    for (size_t i = 0; i < sizeof numbers / sizeof numbers[0]; i++) {
+        check_number(HERE, &wide, mark, numbers[i]);
+    }
+}
+
+int main(void)
+{
+    test_the_example_in_the_header();
+    test_good_segments();
+    test_present_empty_components();
+    test_absent_components();
+    test_number_zero();
+    test_released_bytes();
+    test_release_faults();
+    test_offsets_inside_the_message();
+    test_offsets_at_and_past_the_end();
+    test_empty_messages();
+    test_what_lies_around_does_not_matter();
+    test_messages_cut_short();
+    test_tags();
+    test_every_byte_in_every_place();
+    test_numbers_beyond_255('+');
+    test_numbers_beyond_255(':');
+    printf("test_find_component: %lu checks, %lu failed\n", checks_made,
+           checks_failed);
+    return checks_failed == 0 ? 0 : 1;
+}

@@ -1,0 +1,15 @@
+-- Laws of the reading. First how the loops of the code run through the definitions, then what the definitions mean.
+pub mod Scanning
+pub mod Ending
+pub mod Seeking
+pub mod Comparing
+pub mod Services
+pub mod Segments
+pub mod Accepting
+pub mod FirstBad
+pub mod Rendering
+pub mod OneReading
+pub mod Cursors
+pub mod Spans
+pub mod Values
+pub mod OneOutcome

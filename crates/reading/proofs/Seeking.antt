@@ -1,0 +1,176 @@
+-- The search for a component, turn by turn; and where it can end.
+use Prim.Native.Nat.{ℕ, suc, _+_, _≤_, _<_}
+use native.Mathlib.Omega.{arith}
+use native.Mathlib.Numerals.{add-one}
+use mathlib.Core.Path.{_≡_, refl, sym, ap, _∙_}
+use mathlib.Core.List.{List, [], _∷_}
+use mathlib.Core.Bool.{Bool, true, false, _&&_}
+use lib.Dec.{eqb}
+use lib.ListN.{length, getD, drop, drop-of-length-le, length-drop}
+use lib.Seq.{drop-cons}
+use borrow.Author.Tests.{eq-eqb, ne-eqb}
+use Rattle.reading.specs.Component.{span}
+use Rattle.reading.specs.Machine.{pick, kindOf, seek, isHere, endsComponent, passed, sought, goOn, seekOn, seekFrom, spanBy, componentSpan, segmentEnd}
+use Rattle.reading.specs.declared.service.Service.{Service}
+use Rattle.reading.specs.declared.span.Span.{Span}
+use Rattle.reading.specs.declared.bytes.Kind.{Kind}
+use Rattle.reading.specs.declared.bytes.Kind.the-variants.{Component, Element, Terminator, Release, Plain, Other}
+use Rattle.reading.specs.declared.cursor.End.{End}
+use Rattle.reading.specs.declared.cursor.End.the-variants.{At, Nowhere}
+use Rattle.reading.specs.declared.lookup.Seek.{Seek}
+use Rattle.reading.specs.declared.lookup.Sought.{Sought}
+use Rattle.reading.specs.declared.lookup.Sought.the-variants.{On, Lies}
+use Rattle.reading.proofs.Ending.{end-within}
+
+-- ---- what a byte makes of a search, and a search of a span, once the tests are known
+
+module _ (e c : ℕ) (k : Seek) (at : ℕ) (kind : Kind) where
+  -- the next byte is a released one no more
+  abbrev freed : Seek
+  freed = seek (k .element) (k .component) (k .start) false
+
+  abbrev unreleased : Bool → Sought
+  unreleased ends = pick ends (Lies (span (k .start) at)) (passed k at kind)
+
+  abbrev by-release : Bool → Sought
+  by-release released = pick released (On freed) (unreleased (endsComponent kind && isHere k e c))
+
+  pub sought-released : (next : Seek) → k .released ≡ true → next ≡ freed → On next ≡ sought e c k at kind
+  sought-released next r h = ap On h ∙ sym (ap by-release r)
+
+  pub sought-here : k .released ≡ false → endsComponent kind && isHere k e c ≡ true → Lies (span (k .start) at) ≡ sought e c k at kind
+  sought-here r h = sym (ap by-release r ∙ ap unreleased h)
+
+  pub sought-passed : (next : Sought) → k .released ≡ false → endsComponent kind && isHere k e c ≡ false → next ≡ passed k at kind → next ≡ sought e c k at kind
+  sought-passed next r h p = p ∙ sym (ap by-release r ∙ ap unreleased h)
+
+module _ (s : Service) (bs : List ℕ) (at e c : ℕ) where
+  abbrev at-end : Span
+  at-end = span (length bs) (length bs)
+
+  abbrev by-component : Bool → Span
+  by-component is-zero = pick is-zero at-end (spanBy s bs at e c (segmentEnd s bs at))
+
+  abbrev by-element : Bool → Span
+  by-element is-zero = pick is-zero at-end (by-component (eqb c 0))
+
+  pub span-element-zero : (x : Span) → e ≡ 0 → x ≡ at-end → x ≡ componentSpan s bs at e c
+  span-element-zero x z h = h ∙ sym (ap by-element (eq-eqb e 0 z))
+
+  pub span-component-zero : (x : Span) → (e ≡ 0 → ⊥) → c ≡ 0 → x ≡ at-end → x ≡ componentSpan s bs at e c
+  span-component-zero x n z h = h ∙ sym (ap by-element (ne-eqb e 0 n) ∙ ap by-component (eq-eqb c 0 z))
+
+  pub span-by-end : (x : Span) → (e ≡ 0 → ⊥) → (c ≡ 0 → ⊥) → (end : End) → segmentEnd s bs at ≡ end → x ≡ spanBy s bs at e c end → x ≡ componentSpan s bs at e c
+  span-by-end x n m end i h = h ∙ sym (ap by-element (ne-eqb e 0 n) ∙ ap by-component (ne-eqb c 0 m) ∙ ap (spanBy s bs at e c) i)
+
+-- ---- a search keeps within what it has read
+
+-- before the byte at `at`: numbers that cannot wrap, and a start that was passed
+pub record Kept (at : ℕ) (k : Seek) : Type 0 where
+  pub element-few : k .element ≤ at
+  pub component-few : k .component ≤ at
+  pub started : k .start ≤ at
+
+-- a search that goes on keeps so, and one that has ended lies before the byte
+abbrev Keeps : ℕ → Sought → Type 0
+Keeps at (On k) = Kept (at + 1) k
+Keeps at (Lies x) = (x .start ≤ x .end) × (x .end ≤ at)
+
+keeps-pick : (t : Bool) (at : ℕ) (x y : Sought) → Keeps at x → Keeps at y → Keeps at (pick t x y)
+keeps-pick true at x y h k = h
+keeps-pick false at x y h k = k
+
+kept-later : (at : ℕ) (k : Seek) (r : Bool) → Kept at k → Kept (at + 1) (seek (k .element) (k .component) (k .start) r)
+kept-later at k r h =
+    let a = h .element-few in let b = h .component-few in let c = h .started in
+    record { element-few = omega arith; component-few = omega arith; started = omega arith }
+
+keeps-passed : (at : ℕ) (k : Seek) (kind : Kind) → Kept at k → Keeps at (passed k at kind)
+keeps-passed at k Component h =
+    let a = h .element-few in let b = h .component-few in
+    record { element-few = omega arith; component-few = omega arith; started = omega arith }
+keeps-passed at k Element h = let a = h .element-few in record { element-few = omega arith; component-few = omega arith; started = omega arith }
+keeps-passed at k Terminator h = (omega arith, omega arith)
+keeps-passed at k Release h = kept-later at k true h
+keeps-passed at k Plain h = kept-later at k (k .released) h
+keeps-passed at k Other h = kept-later at k (k .released) h
+
+keeps : (e c at : ℕ) (k : Seek) (kind : Kind) → Kept at k → Keeps at (sought e c k at kind)
+keeps e c at k kind h =
+    keeps-pick (k .released) at _ _ (kept-later at k false h)
+    (keeps-pick (endsComponent kind && isHere k e c) at _ _ (let d = h .started in (omega arith, omega arith)) (keeps-passed at k kind h))
+
+-- ---- turn by turn
+
+pub record Seeking (s : Service) (bs : List ℕ) (from e c : ℕ) (k : Seek) (at : ℕ) : Type 0 where
+  pub within : at ≤ length bs
+  pub kept : Kept at k
+  pub same : seekOn s e c k at (drop at bs) ≡ seekFrom s bs from e c
+
+module _ (s : Service) (bs : List ℕ) (from e c : ℕ) where
+  pub seeking-begin : from ≤ length bs → Seeking s bs from e c (seek 0 0 from false) from
+  seeking-begin h =
+      record {
+        within = h;
+        kept = record { element-few = omega arith; component-few = omega arith; started = omega arith };
+        same = refl;
+      }
+
+  seeking-turn : (k : Seek) (at : ℕ) (kind : Kind) (r : Sought) → at < length bs → Seeking s bs from e c k at → kind ≡ kindOf s (getD bs at 0) → r ≡ sought e c k at kind
+      → seekFrom s bs from e c ≡ goOn r (λ next. seekOn s e c next (at + 1) (drop (at + 1) bs))
+  unfolding seekOn
+  seeking-turn k at kind r h i ek er = sym (i .same) ∙ rw (drop-cons bs at 0 h, er, ek, add-one)
+
+  pub seeking-lies : (k : Seek) (at : ℕ) (kind : Kind) (x : Span) → at < length bs → Seeking s bs from e c k at → kind ≡ kindOf s (getD bs at 0)
+      → Lies x ≡ sought e c k at kind → x ≡ seekFrom s bs from e c
+  seeking-lies k at kind x h i ek er = sym (seeking-turn k at kind (Lies x) h i ek er)
+
+  pub seeking-on : (k next : Seek) (at : ℕ) (kind : Kind) → at < length bs → Seeking s bs from e c k at → kind ≡ kindOf s (getD bs at 0)
+      → On next ≡ sought e c k at kind → Seeking s bs from e c next (at + 1)
+  seeking-on k next at kind h i ek er =
+      record {
+        within = omega arith;
+        kept = rw (← er) at (keeps e c at k kind (i .kept));
+        same = sym (seeking-turn k at kind (On next) h i ek er);
+      }
+
+  pub seeking-out : (k : Seek) (at : ℕ) → length bs ≤ at → Seeking s bs from e c k at → span at at ≡ seekFrom s bs from e c
+  unfolding seekOn
+  seeking-out k at h i = sym (ap (seekOn s e c k at) (drop-of-length-le bs h)) ∙ i .same
+
+-- ---- a component lies within the message
+
+pub record Inside (length : ℕ) (x : Span) : Type 0 where
+  pub ordered : x .start ≤ x .end
+  pub within : x .end ≤ length
+
+seek-on-inside : (s : Service) (e c : ℕ) (k : Seek) (at : ℕ) (bs : List ℕ) → Kept at k → Inside (at + length bs) (seekOn s e c k at bs)
+unfolding seekOn
+seek-on-inside s e c k at [] h = record { ordered = omega arith; within = omega arith }
+seek-on-inside s e c k at (b ∷ bs) h = go (sought e c k at (kindOf s b)) (keeps e c at k (kindOf s b) h) (λ next. seek-on-inside s e c next (at + 1) bs)
+  where
+    go : (r : Sought) → Keeps at r → ((next : Seek) → Kept (at + 1) next → Inside (at + 1 + length bs) (seekOn s e c next (at + 1) bs))
+        → Inside (at + suc (length bs)) (goOn r (λ next. seekOn s e c next (at + 1) bs))
+    go (On next) h further = let w = further next h in record { ordered = w .ordered; within = let x = w .within in omega arith }
+    go (Lies x) h further = record { ordered = h .0; within = let y = h .1 in omega arith }
+
+pub span-inside : (s : Service) (bs : List ℕ) (at e c : ℕ) → Inside (length bs) (componentSpan s bs at e c)
+span-inside s bs at e c = zero-element (eqb e 0)
+  where
+    outside : Inside (length bs) (span (length bs) (length bs))
+    outside = record { ordered = omega arith; within = omega arith }
+
+    by-end : (x : End) → segmentEnd s bs at ≡ x → Inside (length bs) (spanBy s bs at e c x)
+    by-end (At end) h =
+        let w = end-within s bs at end h in
+        let i = seek-on-inside s e c (seek 0 0 (at + 3) false) (at + 3) (drop (at + 3) bs) (record { element-few = omega arith; component-few = omega arith; started = omega arith }) in
+        record { ordered = i .ordered; within = let x = i .within in let y = w .behind in let z = w .inside in omega (arith, length-drop (at + 3) bs) }
+    by-end Nowhere h = outside
+
+    zero-component : (t : Bool) → Inside (length bs) (by-component s bs at e c t)
+    zero-component true = outside
+    zero-component false = by-end (segmentEnd s bs at) refl
+
+    zero-element : (t : Bool) → Inside (length bs) (by-element s bs at e c t)
+    zero-element true = outside
+    zero-element false = zero-component (eqb c 0)

@@ -1,0 +1,88 @@
+-- A component's value, and where it lies. 01, "Bytes of a message", second paragraph.
+use Prim.Native.Nat.{ℕ, zero, suc, _+_}
+use mathlib.Core.List.{List, [], _∷_}
+use mathlib.Core.Bool.{Bool, true, false}
+use lib.ListN.{length}
+use lib.Dec.{eqb}
+use Rattle.reading.specs.Message.{Component, Element, Segment, writeComponent, writeElement}
+use Rattle.reading.specs.WellFormed.{SegmentAt, NoSegmentAt, endOf}
+use Rattle.reading.specs.declared.service.Service.{Service}
+use Rattle.reading.specs.declared.span.Span.{Span}
+
+-- ---- the value
+
+abbrev pub keptOrReleased : Bool → ℕ → List ℕ → List ℕ → List ℕ
+keptOrReleased true b kept released = released
+keptOrReleased false b kept released = b ∷ kept
+
+-- 01: "A component's value is its bytes with each releasing `?` removed." (Here: is the next byte a released one?)
+unfoldable pub valueFrom : Service → Bool → List ℕ → List ℕ
+valueFrom s r [] = []
+valueFrom s true (b ∷ bs) = b ∷ valueFrom s false bs
+valueFrom s false (b ∷ bs) = keptOrReleased (eqb b (s .release)) b (valueFrom s false bs) (valueFrom s true bs)
+
+abbrev pub valueOf : Service → List ℕ → List ℕ
+valueOf s bs = valueFrom s false bs
+
+abbrev pub componentsOf : Element → List Component
+componentsOf x = x .first ∷ x .more
+
+-- "Elements count from 1, components from 1 within their element." "An absent component has the empty value."
+abbrev pub valueInComponents : ℕ → List Component → Component
+valueInComponents c [] = []
+valueInComponents zero (v ∷ vs) = []
+valueInComponents (suc zero) (v ∷ vs) = v
+valueInComponents (suc (suc c)) (v ∷ vs) = valueInComponents (suc c) vs
+
+abbrev pub valueInElements : ℕ → ℕ → List Element → Component
+valueInElements e c [] = []
+valueInElements zero c (x ∷ xs) = []
+valueInElements (suc zero) c (x ∷ xs) = valueInComponents c (componentsOf x)
+valueInElements (suc (suc e)) c (x ∷ xs) = valueInElements (suc e) c xs
+
+abbrev pub valueAt : Segment → ℕ → ℕ → Component
+valueAt g e c = valueInElements e c (g .elements)
+
+-- ---- the place, counted from the message's first byte
+
+pub data Place : Type 0 where
+  -- where its bytes start and where they end; an empty one has a place of its own
+  present : ℕ → ℕ → Place
+  -- where the segment's `'` stands
+  absent : ℕ → Place
+  -- "element or component is 0, or no well-formed segment starts at the given offset"
+  nowhere : Place
+
+-- component c of these, the first of which starts at `at`, in a segment whose `'` stands at `end`
+abbrev pub placeInComponents : Service → ℕ → ℕ → ℕ → List Component → Place
+placeInComponents s end at c [] = absent end
+placeInComponents s end at zero (v ∷ vs) = nowhere
+placeInComponents s end at (suc zero) (v ∷ vs) = present at (at + length (writeComponent s v []))
+placeInComponents s end at (suc (suc c)) (v ∷ vs) = placeInComponents s end (at + length (writeComponent s v []) + 1) (suc c) vs
+
+-- component c of element e of these, the first of which is opened at `at`
+abbrev pub placeInElements : Service → ℕ → ℕ → ℕ → ℕ → List Element → Place
+placeInElements s end at e c [] = absent end
+placeInElements s end at zero c (x ∷ xs) = nowhere
+placeInElements s end at (suc zero) c (x ∷ xs) = placeInComponents s end (at + 1) c (componentsOf x)
+placeInElements s end at (suc (suc e)) c (x ∷ xs) = placeInElements s end (at + length (writeElement s x [])) (suc e) c xs
+
+-- of a segment whose tag starts at `at`
+abbrev pub placeIn : Service → ℕ → Segment → ℕ → ℕ → Place
+placeIn s at g zero c = nowhere
+placeIn s at g (suc e) zero = nowhere
+placeIn s at g (suc e) (suc c) = placeInElements s (endOf s at g) (at + 3) (suc e) (suc c) (g .elements)
+
+-- where a component lies in any bytes
+pub data Lies (s : Service) (bs : List ℕ) (at e c : ℕ) : Place → Type 0 where
+  in-segment : (g : Segment) (rest : List ℕ) → SegmentAt s bs at g rest → Lies s bs at e c (placeIn s at g e c)
+  no-segment : NoSegmentAt s bs at → Lies s bs at e c nowhere
+
+abbrev pub span : ℕ → ℕ → Span
+span a b = record { start = a; end = b }
+
+-- "if absent, as the empty part at the segment's `'`"; else "the empty part at the message's end comes back"
+abbrev pub spanOf : ℕ → Place → Span
+spanOf length (present a b) = span a b
+spanOf length (absent end) = span end end
+spanOf length nowhere = span length length

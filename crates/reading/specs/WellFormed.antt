@@ -1,0 +1,47 @@
+-- Which bytes are a message, and where others go wrong. 01, "Bytes of a message" and number 4 of the table.
+use Prim.Native.Nat.{ℕ, suc, _+_, _≤_, _<_}
+use mathlib.Core.Path.{_≡_}
+use mathlib.Core.List.{List, [], _++_}
+use lib.ListN.{length, take, drop}
+use Rattle.reading.specs.Message.{Message, Segment, ValidMessage, ValidSegment, writeElements, writeSegment, render}
+use Rattle.reading.specs.declared.service.Service.{Service}
+use Rattle.reading.specs.declared.scan.Outcome.{Outcome}
+use Rattle.reading.specs.declared.scan.Outcome.the-variants.{Segments, BadAt}
+
+-- the bytes are how a valid message is written
+pub record WellFormed (s : Service) (bs : List ℕ) : Type 0 where
+  pub message : Message
+  pub valid : ValidMessage message
+  pub same : bs ≡ render s message
+
+-- "begin a well-formed message": some rest completes them
+abbrev pub Begins : Service → List ℕ → Type 0
+Begins s bs = (rest : List ℕ) × WellFormed s (bs ++ rest)
+
+-- Number 4: "smallest offset k such that the first k+1 bytes begin no well-formed message; if none, the length"
+pub record FirstBad (s : Service) (bs : List ℕ) (k : ℕ) : Type 0 where
+  pub ill-formed : WellFormed s bs → ⊥
+  pub within : k ≤ length bs
+  pub before : (j : ℕ) → j < k → Begins s (take (suc j) bs)
+  pub there : k < length bs → Begins s (take (suc k) bs) → ⊥
+
+-- what each answer of a scan says
+abbrev pub Means : Service → List ℕ → Outcome → Type 0
+Means s bs (Segments n) = (w : WellFormed s bs) × (length (w .message) ≡ n)
+Means s bs (BadAt k) = FirstBad s bs k
+
+-- where a segment starts: behind what is written of the k segments before it
+abbrev pub startOf : Service → Message → ℕ → ℕ
+startOf s m k = length (render s (take k m))
+
+-- "a well-formed segment starts at the given offset": it is written there, and the rest behind it, whatever that is
+pub record SegmentAt (s : Service) (bs : List ℕ) (at : ℕ) (g : Segment) (rest : List ℕ) : Type 0 where
+  pub valid : ValidSegment g
+  pub same : drop at bs ≡ writeSegment s g rest
+
+abbrev pub NoSegmentAt : Service → List ℕ → ℕ → Type 0
+NoSegmentAt s bs at = (g : Segment) (rest : List ℕ) → SegmentAt s bs at g rest → ⊥
+
+-- where the terminator of a segment stands whose tag starts at `at`
+abbrev pub endOf : Service → ℕ → Segment → ℕ
+endOf s at g = at + 3 + length (writeElements s (g .elements) [])

@@ -1,0 +1,69 @@
+// What one byte is: the only place that tests a byte's value.
+ghost use mathlib.Core.Path.{_≡_};
+ghost use Rattle.reading.specs.Service.{isData, isTag};
+ghost use Rattle.reading.specs.Machine.{kindOf};
+use crate::service::Service;
+
+// What a byte is, under given service characters.
+pub enum Kind {
+    Component,
+    Element,
+    Terminator,
+    Release,
+    Plain,
+    Other,
+}
+
+pub fn is_data(byte: u8) -> bool
+    ensures { λ r. ⌜ r ≡ isData byte ⌝ }
+{
+    if byte < 0x20 {
+        return false;
+    }
+    if byte <= 0x7e {
+        return true;
+    }
+    if byte < 0xa0 {
+        return false;
+    }
+    true
+}
+
+pub fn is_tag(byte: u8) -> bool
+    ensures { λ r. ⌜ r ≡ isTag byte ⌝ }
+{
+    if byte < b'0' {
+        return false;
+    }
+    if byte <= b'9' {
+        return true;
+    }
+    if byte < b'A' {
+        return false;
+    }
+    if byte <= b'Z' {
+        return true;
+    }
+    false
+}
+
+pub fn kind_of(service: Service, byte: u8) -> Kind
+    ensures { λ r. ⌜ r ≡ kindOf service byte ⌝ }
+{
+    if byte == service.release {
+        return Kind::Release;
+    }
+    if byte == service.component {
+        return Kind::Component;
+    }
+    if byte == service.element {
+        return Kind::Element;
+    }
+    if byte == service.terminator {
+        return Kind::Terminator;
+    }
+    if is_data(byte) {
+        return Kind::Plain;
+    }
+    Kind::Other
+}

@@ -1,0 +1,61 @@
+// A reading place that moves on from segment to segment.
+ghost use mathlib.Core.Path.{_≡_};
+ghost use Rattle.reading.specs.Machine.{segmentEnd, nextSegment};
+use crate::machine;
+use crate::machine::State;
+use crate::service::Service;
+use crate::span::Span;
+
+// Where a segment's terminator stands.
+pub enum End {
+    At(usize),
+    Nowhere,
+}
+
+pub struct Cursor {
+    pub at: usize,
+}
+
+// The segment that starts at a cursor, from its tag up to its terminator, and the cursor behind that.
+pub enum Found {
+    Segment(Span, Cursor),
+    Nothing,
+}
+
+// Where the segment that starts at `at` ends, whatever stands before it and behind it.
+pub fn segment_end(service: Service, message: &[u8], at: usize) -> End
+    ensures { λ r. ⌜ r ≡ segmentEnd service (now (message .entry)) at ⌝ }
+{
+    let mut state = State::Start;
+    let mut position = at;
+    while position < message.len() {
+        state = machine::step(service, state, message[position]);
+        if machine::is_start(state) {
+            return End::At(position);
+        }
+        if machine::is_dead(state) {
+            return End::Nowhere;
+        }
+        position += 1;
+    }
+    End::Nowhere
+}
+
+impl Cursor {
+    // Before a message's first segment.
+    pub fn first() -> Cursor
+        ensures { λ r. ⌜ r .at ≡ 0 ⌝ }
+    {
+        Cursor { at: 0 }
+    }
+
+    pub fn next_segment(self, service: Service, message: &[u8]) -> Found
+        ensures { λ r. ⌜ r ≡ nextSegment service (now (message .entry)) (self .at) ⌝ }
+    {
+        let at = self.at;
+        match segment_end(service, message, at) {
+            End::At(end) => Found::Segment(Span { start: at, end }, Cursor { at: end + 1 }),
+            End::Nowhere => Found::Nothing,
+        }
+    }
+}

@@ -1,0 +1,111 @@
+// One byte more: the state that reading keeps between bytes, and how a byte moves it.
+ghost use mathlib.Core.Path.{_≡_};
+ghost use Rattle.reading.specs.Service.{isTag};
+ghost use Rattle.reading.specs.Machine.{afterTag, afterTagged, afterInside, afterReleased, stepped, isStart, isDead};
+use crate::bytes;
+use crate::bytes::Kind;
+use crate::service::Service;
+
+// Where reading stands: before the tag's first, second and third byte, after the tag, inside an element, after a
+// release, or past a fault, from where nothing leads back.
+pub enum State {
+    Start,
+    Second,
+    Third,
+    Tagged,
+    Inside,
+    Released,
+    Dead,
+}
+
+fn after_tag(byte: u8, next: State) -> State
+    ensures { λ r. ⌜ r ≡ afterTag (isTag byte) next ⌝ }
+{
+    if bytes::is_tag(byte) {
+        return next;
+    }
+    State::Dead
+}
+
+fn after_tagged(kind: Kind) -> State
+    ensures { λ r. ⌜ r ≡ afterTagged kind ⌝ }
+{
+    match kind {
+        Kind::Component => State::Dead,
+        Kind::Element => State::Inside,
+        Kind::Terminator => State::Start,
+        Kind::Release => State::Dead,
+        Kind::Plain => State::Dead,
+        Kind::Other => State::Dead,
+    }
+}
+
+fn after_inside(kind: Kind) -> State
+    ensures { λ r. ⌜ r ≡ afterInside kind ⌝ }
+{
+    match kind {
+        Kind::Component => State::Inside,
+        Kind::Element => State::Inside,
+        Kind::Terminator => State::Start,
+        Kind::Release => State::Released,
+        Kind::Plain => State::Inside,
+        Kind::Other => State::Dead,
+    }
+}
+
+fn after_released(kind: Kind) -> State
+    ensures { λ r. ⌜ r ≡ afterReleased kind ⌝ }
+{
+    match kind {
+        Kind::Component => State::Inside,
+        Kind::Element => State::Inside,
+        Kind::Terminator => State::Inside,
+        Kind::Release => State::Inside,
+        Kind::Plain => State::Dead,
+        Kind::Other => State::Dead,
+    }
+}
+
+// The state after one byte more.
+pub fn step(service: Service, state: State, byte: u8) -> State
+    ensures { λ r. ⌜ r ≡ stepped service state byte ⌝ }
+{
+    match state {
+        State::Start => after_tag(byte, State::Second),
+        State::Second => after_tag(byte, State::Third),
+        State::Third => after_tag(byte, State::Tagged),
+        State::Tagged => after_tagged(bytes::kind_of(service, byte)),
+        State::Inside => after_inside(bytes::kind_of(service, byte)),
+        State::Released => after_released(bytes::kind_of(service, byte)),
+        State::Dead => State::Dead,
+    }
+}
+
+// Has a segment just ended? (Also true before the first byte.)
+pub fn is_start(state: State) -> bool
+    ensures { λ r. ⌜ r ≡ isStart state ⌝ }
+{
+    match state {
+        State::Start => true,
+        State::Second => false,
+        State::Third => false,
+        State::Tagged => false,
+        State::Inside => false,
+        State::Released => false,
+        State::Dead => false,
+    }
+}
+
+pub fn is_dead(state: State) -> bool
+    ensures { λ r. ⌜ r ≡ isDead state ⌝ }
+{
+    match state {
+        State::Start => false,
+        State::Second => false,
+        State::Third => false,
+        State::Tagged => false,
+        State::Inside => false,
+        State::Released => false,
+        State::Dead => true,
+    }
+}

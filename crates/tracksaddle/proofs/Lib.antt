@@ -1,0 +1,3 @@
+-- Laws of the C door.
+pub mod Fitting
+pub mod OneOutcome

@@ -1,0 +1,62 @@
+//! Safe calls into the proved archives. The declarations are the boundary: the
+//! linker does not check them, so they stand here once, next to the words of
+//! what each call answers.
+
+mod declared {
+    extern "C" {
+        pub fn tracksaddle_find_component(
+            message: *const u8,
+            message_len: usize,
+            at: usize,
+            element: usize,
+            component: usize,
+            part: *mut usize,
+            part_len: usize,
+        );
+        pub fn probe_segments(message: *const u8, message_len: usize) -> usize;
+        pub fn probe_bad_place(message: *const u8, message_len: usize) -> usize;
+        pub fn probe_next(message: *const u8, message_len: usize, at: usize) -> usize;
+    }
+}
+
+/// Writes the component's offset and length into `part`, as many as fit.
+pub fn find_component(
+    message: &[u8],
+    at: usize,
+    element: usize,
+    component: usize,
+    part: &mut [usize],
+) {
+    // SAFETY: pointers and lengths come from slices, which are valid for the
+    // call and, one of them being mutable, do not overlap. The other calls
+    // below only lend their one slice.
+    unsafe {
+        declared::tracksaddle_find_component(
+            message.as_ptr(),
+            message.len(),
+            at,
+            element,
+            component,
+            part.as_mut_ptr(),
+            part.len(),
+        )
+    }
+}
+
+/// The number of segments, 0 if the message is not well-formed.
+pub fn segments(message: &[u8]) -> usize {
+    // SAFETY: as above.
+    unsafe { declared::probe_segments(message.as_ptr(), message.len()) }
+}
+
+/// Number 4's place, or the length plus 1 if the message is well-formed.
+pub fn bad_place(message: &[u8]) -> usize {
+    // SAFETY: as above.
+    unsafe { declared::probe_bad_place(message.as_ptr(), message.len()) }
+}
+
+/// The offset after the well-formed segment that starts at `at`, 0 if none does.
+pub fn next(message: &[u8], at: usize) -> usize {
+    // SAFETY: as above.
+    unsafe { declared::probe_next(message.as_ptr(), message.len(), at) }
+}

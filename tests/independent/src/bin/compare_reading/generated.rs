@@ -1,0 +1,163 @@
+//! Random messages from the grammar, as they are and damaged: some thousands of
+//! short ones and some of hundreds of kilobytes.
+
+use crate::comparison::Comparison;
+use independent::bytes::{is_data, is_tag_byte, Service};
+use independent::random::Random;
+use independent::reading::{read_message, starts};
+
+const SERVICE: Service = Service::STANDARD;
+const SHORT_TEXTS: usize = 15_000;
+const LONG_TEXTS: usize = 24;
+const LONG_TEXT_BYTES: usize = 400_000;
+const OFFSETS_PER_TEXT: usize = 8;
+
+/// Numbers that a narrower count would confuse with small ones, beside the
+/// small ones themselves.
+const NUMBERS: [usize; 16] = [
+    0,
+    1,
+    1,
+    1,
+    2,
+    2,
+    3,
+    4,
+    5,
+    255,
+    256,
+    257,
+    65_536,
+    65_537,
+    usize::MAX - 1,
+    usize::MAX,
+];
+
+pub fn compare_all(comparison: &mut Comparison, random: &mut Random) {
+    for _ in 0..SHORT_TEXTS {
+        let segments = random.between(1, 8);
+        let text = message(random, |so_far| so_far.segments >= segments);
+        compare_with_damage(comparison, random, text);
+    }
+    for _ in 0..LONG_TEXTS {
+        let text = message(random, |so_far| so_far.bytes >= LONG_TEXT_BYTES);
+        compare_with_damage(comparison, random, text);
+    }
+}
+
+fn compare_with_damage(comparison: &mut Comparison, random: &mut Random, mut text: Vec<u8>) {
+    let offsets = likely_offsets(random, &text);
+    compare_at(comparison, random, &text, &offsets);
+    for _ in 0..random.between(1, 3) {
+        damage(random, &mut text);
+        compare_at(comparison, random, &text, &offsets);
+    }
+}
+
+fn compare_at(comparison: &mut Comparison, random: &mut Random, text: &[u8], offsets: &[usize]) {
+    comparison.compare_text(text);
+    for &at in offsets {
+        let numbers = [(); 3].map(|()| random.pick(&NUMBERS));
+        comparison.compare_offset(text, at, &numbers);
+    }
+}
+
+/// Starts of segments, offsets anywhere, and offsets at and past the end.
+fn likely_offsets(random: &mut Random, message: &[u8]) -> Vec<usize> {
+    let segments = read_message(message).expect("a generated message is well-formed");
+    let starts = starts(&segments);
+    let length = message.len();
+    let far = random.pick(&[
+        length,
+        length + 1,
+        usize::MAX / 2,
+        usize::MAX - 1,
+        usize::MAX,
+    ]);
+    let mut offsets = vec![0, far];
+    while offsets.len() < OFFSETS_PER_TEXT {
+        offsets.push(random.pick(&starts));
+        offsets.push(random.below(length));
+    }
+    offsets
+}
+
+struct SoFar {
+    segments: usize,
+    bytes: usize,
+}
+
+fn message(random: &mut Random, is_enough: impl Fn(SoFar) -> bool) -> Vec<u8> {
+    let mut text = Vec::new();
+    let mut segments = 0;
+    loop {
+        write_segment(random, &mut text);
+        segments += 1;
+        let bytes = text.len();
+        if is_enough(SoFar { segments, bytes }) {
+            return text;
+        }
+    }
+}
+
+fn write_segment(random: &mut Random, text: &mut Vec<u8>) {
+    for _ in 0..3 {
+        text.push(byte_such_that(random, is_tag_byte));
+    }
+    for _ in 0..random.below(6) {
+        text.push(SERVICE.element);
+        write_component(random, text);
+        for _ in 0..random.below(4) {
+            text.push(SERVICE.component);
+            write_component(random, text);
+        }
+    }
+    text.push(SERVICE.terminator);
+}
+
+fn write_component(random: &mut Random, text: &mut Vec<u8>) {
+    // Texts that look like segments lead lookups inside data to an answer.
+    if random.chance(5) {
+        text.extend(b"UNT");
+    }
+    for _ in 0..random.below(9) {
+        let byte = data_byte(random);
+        if SERVICE.must_be_released(byte) {
+            text.push(SERVICE.release);
+        }
+        text.push(byte);
+    }
+}
+
+fn data_byte(random: &mut Random) -> u8 {
+    if random.chance(15) {
+        random.pick(b":+'?")
+    } else {
+        byte_such_that(random, is_data)
+    }
+}
+
+fn byte_such_that(random: &mut Random, is_wanted: fn(u8) -> bool) -> u8 {
+    loop {
+        let byte = random.byte();
+        if is_wanted(byte) {
+            return byte;
+        }
+    }
+}
+
+/// A change, a loss, an insertion or a cut at some byte.
+fn damage(random: &mut Random, text: &mut Vec<u8>) {
+    if text.is_empty() {
+        text.push(random.byte());
+        return;
+    }
+    let at = random.below(text.len());
+    match random.below(5) {
+        0 => text[at] = random.byte(),
+        1 => text[at] = random.pick(b":+'?A\n"),
+        2 => text.insert(at, random.pick(b":+'?A\n")),
+        3 => drop(text.remove(at)),
+        _ => text.truncate(at),
+    }
+}
