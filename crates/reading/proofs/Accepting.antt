@@ -1,22 +1,20 @@
--- Law scan-accepts: a scan answers n segments exactly when the bytes are how a valid message of n segments is written.
-use Prim.Native.Nat.{ℕ, suc, _+_, _<_}
+-- What a scan accepts is how a valid message of so many segments is written, and all of that.
+use Prim.Native.Nat.{ℕ, _+_, _<_}
 use native.Mathlib.Omega.{arith}
 use mathlib.Core.Path.{_≡_, refl, sym, ap, _∙_}
 use mathlib.Core.List.{List, [], _∷_}
 use mathlib.Core.Option.{some, none}
 use mathlib.Core.Bool.{Bool, true, false, _&&_}
-use mathlib.Core.Logic.{_↔_}
 use lib.Dec.{ltb}
 use lib.ListN.{length}
 use borrow.Author.Tests.{lt-ltb, ltb-true}
-use Rattle.reading.specs.Service.{All, Good}
-use Rattle.reading.specs.Message.{Message, ValidSegment, writeSegment, writeSegments, render}
+use Rattle.reading.specs.Service.{All, GoodService}
+use Rattle.reading.specs.Message.{Message, ValidSegment, writeSegment, writeSegments}
 use Rattle.reading.specs.WellFormed.{WellFormed, Means}
 use Rattle.reading.specs.Machine.{pick, stepped, isStart, isDead, ended, finished, scanOn, scanned}
 use Rattle.reading.specs.declared.service.Service.{Service}
 use Rattle.reading.specs.declared.machine.State.{State}
 use Rattle.reading.specs.declared.machine.State.the-variants.{Start, Second, Third, Tagged, Inside, Released, Dead}
-use Rattle.reading.specs.declared.scan.Outcome.{Outcome}
 use Rattle.reading.specs.declared.scan.Outcome.the-variants.{Segments, BadAt}
 use Rattle.reading.proofs.Segments.{behind, behind-step, behind-dead, none-some, some-is, behind-segment, segment-behind}
 
@@ -57,7 +55,7 @@ module _ (s : Service) where
       go Released h ih e = further Released h refl refl (ih Released e)
       go Dead h ih e = absurd (none-some e)
 
-module _ (s : Service) (good : Good s) where
+module _ (s : Service) (good : GoodService s) where
   -- ---- what is written is accepted
 
   over-segments : (n at : ℕ) (m : Message) → All ValidSegment m → GoesOn s Start n at (writeSegments s m []) Start (n + length m) []
@@ -74,7 +72,7 @@ module _ (s : Service) (good : Good s) where
       let g = over-segments 0 0 (w .message) (w .valid .segments) in
       let n : 0 + length (w .message) ≡ length (w .message) = omega arith in
       ap (scanned s) (w .same) ∙ g .same
-      ∙ ap (λ (x : ℕ). finished Start x (g .there)) n ∙ rw (lt-ltb 0 (length (w .message)) (w .valid .some))
+      ∙ ap (λ (x : ℕ). finished Start x (g .there)) n ∙ rw (lt-ltb 0 (length (w .message)) (w .valid .non-empty))
 
   -- ---- what is accepted is written
 
@@ -166,8 +164,4 @@ module _ (s : Service) (good : Good s) where
   accepted bs n e =
       let f = follows Start 0 n 0 bs e in
       let c : length (f .message) ≡ n = let c = f .count in omega arith in
-      (record { message = f .message; valid = record { segments = f .valid; some = let h = some-segment Start 0 n 0 bs e in omega arith }; same = f .same }, c)
-
-  -- the law, both ways
-  pub scan-accepts : (bs : List ℕ) (n : ℕ) → (scanned s bs ≡ Segments n) ↔ Means s bs (Segments n)
-  scan-accepts bs n = (accepted bs n, λ m. accepts bs (m .0) ∙ ap Segments (m .1))
+      (record { message = f .message; valid = record { segments = f .valid; non-empty = let h = some-segment Start 0 n 0 bs e in omega arith }; same = f .same }, c)

@@ -1,23 +1,22 @@
 -- Laws cursor and starts: a cursor finds the segment that is written at its offset, for any bytes and any offset; and moved
 -- from a message's beginning it stands at each segment's start in turn.
-use Prim.Native.Nat.{ℕ, zero, suc, _+_, _≤_, _<_}
+use Prim.Native.Nat.{ℕ, suc, _+_}
 use native.Mathlib.Omega.{arith}
 use mathlib.Core.Path.{_≡_, refl, sym, ap, _∙_}
-use mathlib.Core.List.{List, [], _∷_, _++_, append-assoc, nil≢cons}
+use mathlib.Core.List.{List, [], _∷_, _++_, nil≢cons}
 use mathlib.Core.Option.{Option, some, none}
 use mathlib.Core.Bool.{Bool, true, false}
 use mathlib.Core.Logic.{_⊎_, inl, inr}
-use lib.ListN.{length, take, drop, length-append, length-drop}
-use lib.Seq.{drop-append-seam, drop-length, take-append-seam, take-append-add}
-use Rattle.reading.specs.Service.{Good}
+use lib.ListN.{length, drop, length-append}
+use lib.Seq.{drop-append-seam, drop-drop, drop-length, take-length, take-append-seam, take-append-add}
+use Rattle.reading.specs.Service.{GoodService}
 use Rattle.reading.specs.Message.{Segment, Message, ValidSegment, writeElements, writeSegment, writeSegments, render}
-use Rattle.reading.specs.WellFormed.{SegmentAt, NoSegmentAt, endOf, startOf}
+use Rattle.reading.specs.WellFormed.{SegmentAt, NoSegmentAt, endOf, startAfter}
 use Rattle.reading.specs.Component.{span}
 use Rattle.reading.specs.Machine.{pick, stepped, isStart, isDead, endOn, segmentEnd, foundBy, nextSegment}
 use Rattle.reading.specs.declared.service.Service.{Service}
 use Rattle.reading.specs.declared.machine.State.{State}
 use Rattle.reading.specs.declared.machine.State.the-variants.{Start, Second, Third, Tagged, Inside, Released, Dead}
-use Rattle.reading.specs.declared.cursor.End.{End}
 use Rattle.reading.specs.declared.cursor.End.the-variants.{At, Nowhere}
 use Rattle.reading.specs.declared.cursor.Found.the-variants as found
 use Rattle.reading.proofs.Segments.{behind, none-some, some-is, behind-segment, segment-behind}
@@ -66,35 +65,35 @@ module _ (s : Service) where
       go false true ih e = refl
       go false false ih e = ih e
 
-module _ (s : Service) (good : Good s) where
+module _ (s : Service) (good : GoodService s) where
   -- at every offset of any bytes a segment is written, or none is
-  pub segment-or-none : (bs : List ℕ) (at : ℕ) → ((g : Segment) × (rest : List ℕ) × SegmentAt s bs at g rest) ⊎ NoSegmentAt s bs at
+  pub segment-or-none : (bs : List ℕ) (at : ℕ) → ((g : Segment) × SegmentAt s bs at g) ⊎ NoSegmentAt s bs at
   segment-or-none bs at = go (behind s Start (drop at bs)) refl
     where
-      go : (r : Option (List ℕ)) → behind s Start (drop at bs) ≡ r → ((g : Segment) × (rest : List ℕ) × SegmentAt s bs at g rest) ⊎ NoSegmentAt s bs at
-      go (some rest) e = let f = segment-behind s good (drop at bs) rest e in inl (f .segment, rest, record { valid = f .valid; same = f .same })
-      go none e = inr (λ g rest i. none-some (sym e ∙ ap (behind s Start) (i .same) ∙ behind-segment s good g rest (i .valid)))
+      go : (r : Option (List ℕ)) → behind s Start (drop at bs) ≡ r → ((g : Segment) × SegmentAt s bs at g) ⊎ NoSegmentAt s bs at
+      go (some rest) e = let f = segment-behind s good (drop at bs) rest e in inl (f .segment, record { valid = f .valid; rest = rest; same = f .same })
+      go none e = inr (λ g i. none-some (sym e ∙ ap (behind s Start) (i .same) ∙ behind-segment s good g (i .rest) (i .valid)))
 
   -- ---- the end
 
-  pub end-of-segment : (bs : List ℕ) (at : ℕ) (g : Segment) (rest : List ℕ) → SegmentAt s bs at g rest → segmentEnd s bs at ≡ At (endOf s at g)
-  end-of-segment bs at g rest i =
-      let r = ends-at s Start at (drop at bs) rest (ap (behind s Start) (i .same) ∙ behind-segment s good g rest (i .valid)) in
-      let long : length (drop at bs) ≡ 3 + length (writeElements s (g .elements) (s .terminator ∷ rest)) = ap length (i .same) ∙ omega arith in
-      r .found ∙ ap At (let c = r .counted in omega (arith, elements-long s (g .elements) (s .terminator ∷ rest)))
+  pub end-of-segment : (bs : List ℕ) (at : ℕ) (g : Segment) → SegmentAt s bs at g → segmentEnd s bs at ≡ At (endOf s at g)
+  end-of-segment bs at g i =
+      let r = ends-at s Start at (drop at bs) (i .rest) (ap (behind s Start) (i .same) ∙ behind-segment s good g (i .rest) (i .valid)) in
+      let long : length (drop at bs) ≡ 3 + length (writeElements s (g .elements) (s .terminator ∷ i .rest)) = ap length (i .same) ∙ omega arith in
+      r .found ∙ ap At (let c = r .counted in omega (arith, elements-long s (g .elements) (s .terminator ∷ i .rest)))
 
   pub end-of-none : (bs : List ℕ) (at : ℕ) → NoSegmentAt s bs at → segmentEnd s bs at ≡ Nowhere
   end-of-none bs at none-there = go (behind s Start (drop at bs)) refl
     where
       go : (r : Option (List ℕ)) → behind s Start (drop at bs) ≡ r → segmentEnd s bs at ≡ Nowhere
-      go (some rest) e = let f = segment-behind s good (drop at bs) rest e in absurd (none-there (f .segment) rest (record { valid = f .valid; same = f .same }))
+      go (some rest) e = let f = segment-behind s good (drop at bs) rest e in absurd (none-there (f .segment) (record { valid = f .valid; rest = rest; same = f .same }))
       go none e = ends-nowhere s Start at (drop at bs) e
 
   -- ---- the cursor
 
-  pub cursor : (bs : List ℕ) (at : ℕ) (g : Segment) (rest : List ℕ) → SegmentAt s bs at g rest
+  pub cursor : (bs : List ℕ) (at : ℕ) (g : Segment) → SegmentAt s bs at g
       → nextSegment s bs at ≡ found.Segment (span at (endOf s at g)) (record { at = endOf s at g + 1 })
-  cursor bs at g rest i = ap (foundBy at) (end-of-segment bs at g rest i)
+  cursor bs at g i = ap (foundBy at) (end-of-segment bs at g i)
 
   pub no-cursor : (bs : List ℕ) (at : ℕ) → NoSegmentAt s bs at → nextSegment s bs at ≡ found.Nothing
   no-cursor bs at none-there = ap (foundBy at) (end-of-none bs at none-there)
@@ -102,25 +101,26 @@ module _ (s : Service) (good : Good s) where
   -- ---- the starts of a message's segments
 
   -- of a message of which `before` has been passed and `g` comes next
-  start-is : (before after : Message) → startOf s (before ++ after) (length before) ≡ length (render s before)
+  pub start-is : (before after : Message) → startAfter s (before ++ after) (length before) ≡ length (render s before)
   start-is before after = ap (λ (m : Message). length (render s m)) (take-append-seam before after)
 
-  written-at : (before : Message) (g : Segment) (after : Message) → ValidSegment g
-      → SegmentAt s (render s (before ++ (g ∷ after))) (length (render s before)) g (render s after)
+  pub written-at : (before : Message) (g : Segment) (after : Message) → ValidSegment g
+      → SegmentAt s (render s (before ++ (g ∷ after))) (length (render s before)) g
   unfolding writeSegments
   written-at before g after v =
       record {
         valid = v;
+        rest = render s after;
         same =
             ap (drop (length (render s before))) (segments-append s before (g ∷ after) [] ∙ segments-front s before (writeSegment s g (render s after)))
             ∙ drop-append-seam (render s before) (writeSegment s g (render s after));
       }
 
-  next-start : (before : Message) (g : Segment) (after : Message)
-      → endOf s (length (render s before)) g + 1 ≡ startOf s (before ++ (g ∷ after)) (length before + 1)
+  pub next-start : (before : Message) (g : Segment) (after : Message)
+      → endOf s (length (render s before)) g + 1 ≡ startAfter s (before ++ (g ∷ after)) (length before + 1)
   unfolding writeSegments
   next-start before g after =
-      let whole : startOf s (before ++ (g ∷ after)) (length before + 1) ≡ length (render s (before ++ (g ∷ []))) =
+      let whole : startAfter s (before ++ (g ∷ after)) (length before + 1) ≡ length (render s (before ++ (g ∷ []))) =
       ap (λ (m : Message). length (render s m)) (take-append-add before (g ∷ after) 1) in
       let long : length (render s (before ++ (g ∷ []))) ≡ length (render s before) + length (writeSegment s g []) =
       ap length (segments-append s before (g ∷ []) [] ∙ segments-front s before (writeSegment s g [])) ∙ length-append (render s before) (writeSegment s g []) in
@@ -128,13 +128,29 @@ module _ (s : Service) (good : Good s) where
 
   -- the law: from each segment's start a cursor goes on to the next one's
   pub starts : (before : Message) (g : Segment) (after : Message) → ValidSegment g
-      → nextSegment s (render s (before ++ (g ∷ after))) (startOf s (before ++ (g ∷ after)) (length before))
-      ≡ found.Segment (span (startOf s (before ++ (g ∷ after)) (length before)) (endOf s (startOf s (before ++ (g ∷ after)) (length before)) g))
-      (record { at = startOf s (before ++ (g ∷ after)) (length before + 1) })
+      → nextSegment s (render s (before ++ (g ∷ after))) (startAfter s (before ++ (g ∷ after)) (length before))
+      ≡ found.Segment (span (startAfter s (before ++ (g ∷ after)) (length before)) (endOf s (startAfter s (before ++ (g ∷ after)) (length before)) g))
+      (record { at = startAfter s (before ++ (g ∷ after)) (length before + 1) })
   starts before g after v =
       rw (start-is before (g ∷ after), ← next-start before g after)
-      (cursor (render s (before ++ (g ∷ after))) (length (render s before)) g (render s after) (written-at before g after v))
+      (cursor (render s (before ++ (g ∷ after))) (length (render s before)) g (written-at before g after v))
 
   -- and at the message's end it finds nothing
   pub no-more : (bs : List ℕ) → nextSegment s bs (length bs) ≡ found.Nothing
-  no-more bs = no-cursor bs (length bs) (λ g rest i. nil≢cons (sym (drop-length bs) ∙ i .same))
+  no-more bs = no-cursor bs (length bs) (λ g i. nil≢cons (sym (drop-length bs) ∙ i .same))
+
+  -- the first segment starts at 0, and behind the last one is the end
+  pub first-start : (m : Message) → startAfter s m 0 ≡ 0
+  unfolding writeSegments
+  first-start m = refl
+
+  pub last-start : (m : Message) → startAfter s m (length m) ≡ length (render s m)
+  last-start m = ap (λ (x : Message). length (render s x)) (take-length m)
+
+  -- what stands behind a segment
+  pub behind-end : (bs : List ℕ) (at : ℕ) (g : Segment) (i : SegmentAt s bs at g) → drop (endOf s at g + 1) bs ≡ i .rest
+  behind-end bs at g i =
+      let long : length (writeSegment s g []) ≡ 3 + length (writeElements s (g .elements) []) + 1 = omega (arith, elements-long s (g .elements) (s .terminator ∷ [])) in
+      let there : endOf s at g + 1 ≡ at + length (writeSegment s g []) = omega arith in
+      ap (λ (n : ℕ). drop n bs) there ∙ sym (drop-drop (length (writeSegment s g [])) at bs) ∙ ap (drop (length (writeSegment s g []))) (i .same ∙ segment-front s g (i .rest))
+      ∙ drop-append-seam (writeSegment s g []) (i .rest)

@@ -1,49 +1,20 @@
--- The search for a segment's end, turn by turn; and where such an end can lie.
-use Prim.Native.Nat.{ℕ, zero, suc, _+_, _≤_, _<_}
+-- Where a segment's end can lie: it has at least its tag and its terminator, and lies within the bytes.
+use Prim.Native.Nat.{ℕ, suc, _+_, _≤_, _<_}
 use native.Mathlib.Omega.{arith}
-use native.Mathlib.Numerals.{add-one}
-use mathlib.Core.Path.{_≡_, refl, sym, ap, _∙_}
+use mathlib.Core.Path.{_≡_, refl}
 use mathlib.Core.List.{List, [], _∷_}
 use mathlib.Core.Bool.{Bool, true, false}
-use lib.ListN.{length, getD, drop, drop-of-length-le, length-drop}
-use lib.Seq.{drop-cons}
-use Rattle.reading.specs.Service.{isTag}
+use lib.ListN.{length, drop, length-drop}
+use Rattle.reading.specs.Service.{isTagByte}
 use Rattle.reading.specs.Machine.{pick, kindOf, afterTag, afterTagged, afterInside, afterReleased, stepped, isStart, isDead, endOn, segmentEnd}
 use Rattle.reading.specs.declared.service.Service.{Service}
 use Rattle.reading.specs.declared.bytes.Kind.{Kind}
 use Rattle.reading.specs.declared.bytes.Kind.the-variants.{Component, Element, Terminator, Release, Plain, Other}
 use Rattle.reading.specs.declared.machine.State.{State}
 use Rattle.reading.specs.declared.machine.State.the-variants.{Start, Second, Third, Tagged, Inside, Released, Dead}
-use Rattle.reading.specs.declared.cursor.End.{End}
 use Rattle.reading.specs.declared.cursor.End.the-variants.{At, Nowhere}
 
--- what is found from here is what is found from the segment's first byte
-abbrev pub Ending : Service → List ℕ → ℕ → State → ℕ → Type 0
-Ending s bs at p here = endOn s p here (drop here bs) ≡ segmentEnd s bs at
-
-module _ (s : Service) (bs : List ℕ) (at : ℕ) where
-  ending-turn : (p q : State) (here : ℕ) → here < length bs → Ending s bs at p here → q ≡ stepped s p (getD bs here 0)
-      → segmentEnd s bs at ≡ pick (isStart q) (At here) (pick (isDead q) Nowhere (endOn s q (here + 1) (drop (here + 1) bs)))
-  unfolding endOn
-  ending-turn p q here h i e = sym i ∙ rw (drop-cons bs here 0 h, e, add-one)
-
-  pub ending-found : (p q : State) (here : ℕ) → here < length bs → Ending s bs at p here → q ≡ stepped s p (getD bs here 0) → isStart q ≡ true
-      → At here ≡ segmentEnd s bs at
-  ending-found p q here h i e t = sym (ending-turn p q here h i e ∙ rw t)
-
-  pub ending-lost : (p q : State) (here : ℕ) → here < length bs → Ending s bs at p here → q ≡ stepped s p (getD bs here 0) → isStart q ≡ false → isDead q ≡ true
-      → Nowhere ≡ segmentEnd s bs at
-  ending-lost p q here h i e t d = sym (ending-turn p q here h i e ∙ rw (t, d))
-
-  pub ending-on : (p q : State) (here : ℕ) → here < length bs → Ending s bs at p here → q ≡ stepped s p (getD bs here 0) → isStart q ≡ false → isDead q ≡ false
-      → Ending s bs at q (here + 1)
-  ending-on p q here h i e t d = sym (ending-turn p q here h i e ∙ rw (t, d))
-
-  pub ending-out : (p : State) (here : ℕ) → length bs ≤ here → Ending s bs at p here → Nowhere ≡ segmentEnd s bs at
-  unfolding endOn
-  ending-out p here h i = sym (ap (endOn s p here) (drop-of-length-le bs h)) ∙ i
-
--- ---- a segment has at least its tag and its terminator, and lies within the bytes
+-- ---- how near the terminator can be
 
 -- how many bytes have to come before the terminator
 abbrev least : State → ℕ
@@ -93,9 +64,9 @@ nearer-released Plain = tt
 nearer-released Other = tt
 
 nearer : (s : Service) (p : State) (b : ℕ) → Nearer (least p) (stepped s p b)
-nearer s Start b = nearer-tag (isTag b) Second 3 (omega arith)
-nearer s Second b = nearer-tag (isTag b) Third 2 (omega arith)
-nearer s Third b = nearer-tag (isTag b) Tagged 1 (omega arith)
+nearer s Start b = nearer-tag (isTagByte b) Second 3 (omega arith)
+nearer s Second b = nearer-tag (isTagByte b) Third 2 (omega arith)
+nearer s Third b = nearer-tag (isTagByte b) Tagged 1 (omega arith)
 nearer s Tagged b = nearer-tagged (kindOf s b)
 nearer s Inside b = nearer-inside (kindOf s b)
 nearer s Released b = nearer-released (kindOf s b)

@@ -1,5 +1,6 @@
--- Law first-bad: a scan answers a place exactly when that place is number 4's. A "can" is shown by an explicit completion
--- for each live state, a "cannot" by a state that has none.
+-- Laws scan-accepts and first-bad: a scan answers n exactly when the bytes are a message of n segments, and a place exactly
+-- when that place is number 4's. A "can" is shown by an explicit completion for each live state, a "cannot" by a state that
+-- has none.
 use Prim.Native.Nat.{ℕ, zero, suc, _+_, _≤_, _<_}
 use native.Mathlib.Omega.{arith}
 use native.Mathlib.Decide.{decLt}
@@ -8,18 +9,18 @@ use mathlib.Core.List.{List, [], _∷_, _++_}
 use mathlib.Core.Bool.{Bool, true, false, _&&_, true≢false, false≢true}
 use mathlib.Core.Logic.{dite, _↔_}
 use lib.Dec.{ltb}
-use lib.ListN.{length, take, drop, take-append-drop}
+use lib.ListN.{length, take}
 use borrow.Author.Tests.{lt-ltb}
-use Rattle.reading.specs.Service.{Good, isTag}
+use Rattle.reading.specs.Service.{GoodService, isTagByte}
 use Rattle.reading.specs.WellFormed.{WellFormed, Begins, FirstBad, Means}
-use Rattle.reading.specs.Machine.{pick, afterTag, afterTagged, afterInside, afterReleased, stepped, isStart, isDead, ended, finished, scanOn, scanned}
+use Rattle.reading.specs.Machine.{pick, afterTag, afterTagged, afterInside, afterReleased, stepped, isStart, isDead, ended, scanOn, scanned}
 use Rattle.reading.specs.declared.service.Service.{Service}
 use Rattle.reading.specs.declared.machine.State.{State}
 use Rattle.reading.specs.declared.machine.State.the-variants.{Start, Second, Third, Tagged, Inside, Released, Dead}
 use Rattle.reading.specs.declared.scan.Outcome.{Outcome}
 use Rattle.reading.specs.declared.scan.Outcome.the-variants.{Segments, BadAt}
 use Rattle.reading.proofs.Services.{kind-release, kind-terminator}
-use Rattle.reading.proofs.Accepting.{GoesOn, on-step, bad-segments, segments-is, accepts, accepted}
+use Rattle.reading.proofs.Accepting.{on-step, bad-segments, accepts, accepted}
 
 bad-is : {j k : ℕ} → BadAt j ≡ BadAt k → j ≡ k
 bad-is e = cc
@@ -125,7 +126,7 @@ module _ (s : Service) where
             record { within = let w = d .within in omega arith; alive = d .alive; dead = λ l. d .dead (omega arith) },
           )
 
-module _ (s : Service) (good : Good s) where
+module _ (s : Service) (good : GoodService s) where
   -- ---- each live state has a completion: 65 is the tag byte 'A'
 
   completion : State → List ℕ
@@ -137,8 +138,8 @@ module _ (s : Service) (good : Good s) where
   completion Released = s .release ∷ s .terminator ∷ []
   completion Dead = []
 
-  tag-A : isTag 65 ≡ true
-  unfolding isTag
+  tag-A : isTagByte 65 ≡ true
+  unfolding isTagByte
   tag-A = refl
 
   done : (n at : ℕ) → scanOn s Start (n + 1) at [] ≡ Segments (n + 1)
@@ -219,6 +220,12 @@ module _ (s : Service) (good : Good s) where
       go (Segments n) e = absurd (m .ill-formed (accepted s good bs n e .0))
       go (BadAt j) e = ap BadAt (one-first-bad bs j k (first-bad-at bs j e) m)
 
-  -- the law, both ways
+  -- the laws, both ways: each answer is given exactly when it is right
+  pub scan-right : (bs : List ℕ) (r : Outcome) → (scanned s bs ≡ r) ↔ Means s bs r
+  scan-right bs r = (λ e. rw e at (scan-means bs), means-scan bs r)
+
+  pub scan-accepts : (bs : List ℕ) (n : ℕ) → (scanned s bs ≡ Segments n) ↔ ((w : WellFormed s bs) × (length (w .message) ≡ n))
+  scan-accepts bs n = scan-right bs (Segments n)
+
   pub first-bad : (bs : List ℕ) (k : ℕ) → (scanned s bs ≡ BadAt k) ↔ FirstBad s bs k
-  first-bad bs k = (first-bad-at bs k, means-scan bs (BadAt k))
+  first-bad bs k = scan-right bs (BadAt k)

@@ -1,5 +1,5 @@
 -- Laws of the reading. First how the loops of the code run through the definitions, then what the definitions mean.
-pub mod Scanning
+pub mod Progressing
 pub mod Ending
 pub mod Seeking
 pub mod Comparing
@@ -12,4 +12,5 @@ pub mod OneReading
 pub mod Cursors
 pub mod Spans
 pub mod Values
+pub mod Examples
 pub mod OneOutcome

@@ -3,11 +3,13 @@
 use mathlib.Core.Path.{_≡_, sym, _∙_}
 use Rattle.reading.proofs.service.Service.standard.Reads as standard
 use Rattle.reading.proofs.bytes.is_data.Reads as is-data
-use Rattle.reading.proofs.bytes.is_tag.Reads as is-tag
+use Rattle.reading.proofs.bytes.is_tag_byte.Reads as is-tag-byte
 use Rattle.reading.proofs.bytes.kind_of.Reads as kind-of
 use Rattle.reading.proofs.machine.step.Reads as step
 use Rattle.reading.proofs.machine.is_start.Reads as is-start
 use Rattle.reading.proofs.machine.is_dead.Reads as is-dead
+use Rattle.reading.proofs.progress.read_segments.Reads as read-segments
+use Rattle.reading.proofs.progress.has_ended.Reads as has-ended
 use Rattle.reading.proofs.scan.scan.Reads as scan
 use Rattle.reading.proofs.span.Span.empty_at.Reads as empty-at
 use Rattle.reading.proofs.cursor.segment_end.Reads as segment-end
@@ -27,8 +29,8 @@ one-standard κs a r q x y m n = m ∙ sym n
 pub one-is-data : One is-data.Post
 one-is-data κs a r q x y m n = m ∙ sym n
 
-pub one-is-tag : One is-tag.Post
-one-is-tag κs a r q x y m n = m ∙ sym n
+pub one-is-tag-byte-byte : One is-tag-byte.Post
+one-is-tag-byte-byte κs a r q x y m n = m ∙ sym n
 
 pub one-kind-of : One kind-of.Post
 one-kind-of κs a r q x y m n = m ∙ sym n
@@ -41,6 +43,12 @@ one-is-start κs a r q x y m n = m ∙ sym n
 
 pub one-is-dead : One is-dead.Post
 one-is-dead κs a r q x y m n = m ∙ sym n
+
+pub one-read-segments : One read-segments.Post
+one-read-segments κs a r q x y m n = m ∙ sym n
+
+pub one-has-ended : One has-ended.Post
+one-has-ended κs a r q x y m n = m ∙ sym n
 
 pub one-scan : One scan.Post
 one-scan κs a r q x y m n = m ∙ sym n

@@ -1,21 +1,24 @@
 -- Laws one-reading and raw-is-value: bytes are the writing of one message, one segment and one value at most.
 use Prim.Native.Nat.{ℕ}
 use mathlib.Core.Path.{_≡_, refl, sym, ap, _∙_}
-use mathlib.Core.List.{List, [], _∷_, nil≢cons, cons≢nil, head-eq-of-cons-eq, tail-eq-of-cons-eq}
-use mathlib.Core.Bool.{Bool, true, false, true≢false, false≢true, _||_}
+use mathlib.Core.List.{List, [], _∷_, _++_, nil≢cons, cons≢nil, head-eq-of-cons-eq, tail-eq-of-cons-eq}
+use mathlib.Core.Bool.{Bool, true, false, true≢false, _||_}
 use mathlib.Core.Logic.{_↔_}
 use lib.Dec.{eqb}
 use borrow.Author.Tests.{eq-eqb}
-use Rattle.reading.specs.Service.{Good, mustRelease}
+use Rattle.reading.specs.Service.{All, GoodService, isWordByte, mustRelease}
 use Rattle.reading.specs.Message.{Component, Element, Segment, Message, released, writeComponent, writeMore, writeElements, writeSegment, writeSegments}
 use Rattle.reading.specs.WellFormed.{WellFormed}
-use Rattle.reading.specs.Component.{keptOrReleased, valueFrom, valueOf}
-use Rattle.reading.specs.Machine.{sameBytes}
+use Rattle.reading.specs.Component.{valueFrom, valueOf}
+use Rattle.reading.specs.Machine.{sameComponent}
 use Rattle.reading.specs.declared.service.Service.{Service}
 use Rattle.reading.proofs.Services.{release-release, release-component, release-element, release-terminator, component-element, component-release, component-terminator, element-release, element-terminator, terminator-release}
 use Rattle.reading.proofs.Comparing.{same-bytes-refl, same-bytes-true}
 
 -- ---- a component alone, under any five characters
+
+abbrev pub IsWord : ℕ → Type 0
+IsWord b = isWordByte b ≡ true
 
 module _ (s : Service) where
   not-release : (b : ℕ) → mustRelease s b ≡ false → eqb b (s .release) ≡ false
@@ -43,15 +46,21 @@ module _ (s : Service) where
     λ e. ap (λ (x : Component). writeComponent s x []) e,
   )
 
-  pub same-value : (c d : Component) → (sameBytes (writeComponent s c []) (writeComponent s d []) ≡ true) ↔ (c ≡ d)
+  pub same-value : (c d : Component) → (sameComponent (writeComponent s c []) (writeComponent s d []) ≡ true) ↔ (c ≡ d)
   same-value c d = (
     λ e. raw-is-value c d .0 (same-bytes-true (writeComponent s c []) (writeComponent s d []) e),
-    λ e. ap (sameBytes (writeComponent s c [])) (sym (raw-is-value c d .1 e)) ∙ same-bytes-refl (writeComponent s c []),
+    λ e. ap (sameComponent (writeComponent s c [])) (sym (raw-is-value c d .1 e)) ∙ same-bytes-refl (writeComponent s c []),
   )
 
 -- ---- components in a segment, under a good set
 
-module _ (s : Service) (good : Good s) where
+module _ (s : Service) (good : GoodService s) where
+  -- a value of word bytes is written as it is
+  pub word-written : (c : Component) (rest : List ℕ) → All IsWord c → writeComponent s c rest ≡ c ++ rest
+  unfolding writeComponent
+  word-written [] rest w = refl
+  word-written (b ∷ bs) rest w = rw (good .words b (w .0)) (ap (_∷_ b) (word-written bs rest (w .1)))
+
   -- what may follow a component: a separator
   record Stop (bs : List ℕ) : Type 0 where
     head : ℕ

@@ -1,74 +1,82 @@
 -- What is written in front of a rest is what is written alone, and then the rest; and how many bytes that is.
-use Prim.Native.Nat.{ℕ, suc, _+_}
-use native.Mathlib.Omega.{arith}
+use Prim.Native.Nat.{ℕ, _+_}
 use mathlib.Core.Path.{_≡_, refl, sym, ap, _∙_}
 use mathlib.Core.List.{List, [], _∷_, _++_, append-assoc}
 use mathlib.Core.Bool.{Bool, true, false}
 use lib.ListN.{length, length-append}
 use Rattle.reading.specs.Service.{mustRelease}
-use Rattle.reading.specs.Message.{Component, Element, Segment, Message, released, writeComponent, writeMore, writeElement, writeElements, writeSegment, writeSegments, render}
+use Rattle.reading.specs.Message.{Component, Element, Segment, Message, released, writeComponent, writeMore, writeElement, writeElements, writeTag, writeSegment, writeSegments, render}
 use Rattle.reading.specs.declared.service.Service.{Service}
 
-released-front : (t : Bool) (r b : ℕ) (xs ys : List ℕ) → released t r b (xs ++ ys) ≡ released t r b xs ++ ys
-released-front true r b xs ys = refl
-released-front false r b xs ys = refl
+-- a writer that puts its bytes in front of whatever follows
+abbrev pub Front : (List ℕ → List ℕ) → Type 0
+Front write = (rest : List ℕ) → write rest ≡ write [] ++ rest
+
+-- one after another, two such writers are one
+both-front : (write later : List ℕ → List ℕ) → Front write → Front later → Front (λ rest. write (later rest))
+both-front write later f g rest =
+    f (later rest) ∙ ap (λ (x : List ℕ). write [] ++ x) (g rest) ∙ sym (append-assoc (write []) (later []) rest) ∙ ap (λ (x : List ℕ). x ++ rest) (sym (f (later [])))
+
+byte-front : (b : ℕ) → Front (_∷_ b)
+byte-front b rest = refl
+
+front-long : (write : List ℕ → List ℕ) → Front write → (rest : List ℕ) → length (write rest) ≡ length (write []) + length rest
+front-long write f rest = ap length (f rest) ∙ length-append (write []) rest
+
+released-front : (t : Bool) (r b : ℕ) → Front (released t r b)
+released-front true r b rest = refl
+released-front false r b rest = refl
 
 module _ (s : Service) where
-  pub component-front : (c : Component) (rest : List ℕ) → writeComponent s c rest ≡ writeComponent s c [] ++ rest
+  pub component-front : (c : Component) → Front (writeComponent s c)
   unfolding writeComponent
-  component-front [] rest = refl
-  component-front (b ∷ bs) rest =
-      ap (released (mustRelease s b) (s .release) b) (component-front bs rest) ∙ released-front (mustRelease s b) (s .release) b (writeComponent s bs []) rest
+  component-front [] = λ rest. refl
+  component-front (b ∷ bs) = both-front (released (mustRelease s b) (s .release) b) (writeComponent s bs) (released-front (mustRelease s b) (s .release) b) (component-front bs)
 
-  pub more-front : (cs : List Component) (rest : List ℕ) → writeMore s cs rest ≡ writeMore s cs [] ++ rest
+  pub more-front : (cs : List Component) → Front (writeMore s cs)
   unfolding writeMore
-  more-front [] rest = refl
-  more-front (c ∷ cs) rest =
-      ap (_∷_ (s .component))
-      (component-front c (writeMore s cs rest) ∙ ap (λ (x : List ℕ). writeComponent s c [] ++ x) (more-front cs rest)
-      ∙ sym (append-assoc (writeComponent s c []) (writeMore s cs []) rest) ∙ ap (λ (x : List ℕ). x ++ rest) (sym (component-front c (writeMore s cs []))))
+  more-front [] = λ rest. refl
+  more-front (c ∷ cs) =
+      both-front (_∷_ (s .component)) (λ rest. writeComponent s c (writeMore s cs rest)) (byte-front (s .component))
+      (both-front (writeComponent s c) (writeMore s cs) (component-front c) (more-front cs))
 
-  pub element-front : (x : Element) (rest : List ℕ) → writeElement s x rest ≡ writeElement s x [] ++ rest
-  element-front x rest =
-      ap (_∷_ (s .element))
-      (component-front (x .first) (writeMore s (x .more) rest) ∙ ap (λ (y : List ℕ). writeComponent s (x .first) [] ++ y) (more-front (x .more) rest)
-      ∙ sym (append-assoc (writeComponent s (x .first) []) (writeMore s (x .more) []) rest)
-      ∙ ap (λ (y : List ℕ). y ++ rest) (sym (component-front (x .first) (writeMore s (x .more) []))))
+  pub element-front : (x : Element) → Front (writeElement s x)
+  element-front x =
+      both-front (_∷_ (s .element)) (λ rest. writeComponent s (x .first) (writeMore s (x .more) rest)) (byte-front (s .element))
+      (both-front (writeComponent s (x .first)) (writeMore s (x .more)) (component-front (x .first)) (more-front (x .more)))
 
-  pub elements-front : (xs : List Element) (rest : List ℕ) → writeElements s xs rest ≡ writeElements s xs [] ++ rest
+  pub elements-front : (xs : List Element) → Front (writeElements s xs)
   unfolding writeElements
-  elements-front [] rest = refl
-  elements-front (x ∷ xs) rest =
-      element-front x (writeElements s xs rest) ∙ ap (λ (y : List ℕ). writeElement s x [] ++ y) (elements-front xs rest)
-      ∙ sym (append-assoc (writeElement s x []) (writeElements s xs []) rest) ∙ ap (λ (y : List ℕ). y ++ rest) (sym (element-front x (writeElements s xs [])))
+  elements-front [] = λ rest. refl
+  elements-front (x ∷ xs) = both-front (writeElement s x) (writeElements s xs) (element-front x) (elements-front xs)
+
+  pub segment-front : (g : Segment) → Front (writeSegment s g)
+  segment-front g =
+      both-front (writeTag (g .tag)) (λ rest. writeElements s (g .elements) (s .terminator ∷ rest)) (λ rest. refl)
+      (both-front (writeElements s (g .elements)) (_∷_ (s .terminator)) (elements-front (g .elements)) (byte-front (s .terminator)))
+
+  pub segments-front : (m : Message) → Front (writeSegments s m)
+  unfolding writeSegments
+  segments-front [] = λ rest. refl
+  segments-front (g ∷ m) = both-front (writeSegment s g) (writeSegments s m) (segment-front g) (segments-front m)
 
   pub segments-append : (m n : Message) (rest : List ℕ) → writeSegments s (m ++ n) rest ≡ writeSegments s m (writeSegments s n rest)
   unfolding writeSegments
   segments-append [] n rest = refl
   segments-append (g ∷ m) n rest = ap (writeSegment s g) (segments-append m n rest)
 
-  pub segment-front : (g : Segment) (rest : List ℕ) → writeSegment s g rest ≡ writeSegment s g [] ++ rest
-  segment-front g rest =
-      ap (λ (y : List ℕ). g .tag .first ∷ g .tag .second ∷ g .tag .third ∷ y)
-      (elements-front (g .elements) (s .terminator ∷ rest) ∙ sym (append-assoc (writeElements s (g .elements) []) (s .terminator ∷ []) rest)
-      ∙ ap (λ (y : List ℕ). y ++ rest) (sym (elements-front (g .elements) (s .terminator ∷ []))))
-
-  pub segments-front : (m : Message) (rest : List ℕ) → writeSegments s m rest ≡ render s m ++ rest
-  unfolding writeSegments
-  segments-front [] rest = refl
-  segments-front (g ∷ m) rest =
-      ap (writeSegment s g) (segments-front m rest) ∙ segment-front g (render s m ++ rest) ∙ sym (append-assoc (writeSegment s g []) (render s m) rest)
-      ∙ ap (λ (y : List ℕ). y ++ rest) (sym (segment-front g (render s m)))
-
   -- lengths
   pub component-long : (c : Component) (rest : List ℕ) → length (writeComponent s c rest) ≡ length (writeComponent s c []) + length rest
-  component-long c rest = ap length (component-front c rest) ∙ length-append (writeComponent s c []) rest
+  component-long c = front-long (writeComponent s c) (component-front c)
 
   pub more-long : (cs : List Component) (rest : List ℕ) → length (writeMore s cs rest) ≡ length (writeMore s cs []) + length rest
-  more-long cs rest = ap length (more-front cs rest) ∙ length-append (writeMore s cs []) rest
+  more-long cs = front-long (writeMore s cs) (more-front cs)
 
   pub element-long : (x : Element) (rest : List ℕ) → length (writeElement s x rest) ≡ length (writeElement s x []) + length rest
-  element-long x rest = ap length (element-front x rest) ∙ length-append (writeElement s x []) rest
+  element-long x = front-long (writeElement s x) (element-front x)
 
   pub elements-long : (xs : List Element) (rest : List ℕ) → length (writeElements s xs rest) ≡ length (writeElements s xs []) + length rest
-  elements-long xs rest = ap length (elements-front xs rest) ∙ length-append (writeElements s xs []) rest
+  elements-long xs = front-long (writeElements s xs) (elements-front xs)
+
+  pub segments-long : (m : Message) (rest : List ℕ) → length (writeSegments s m rest) ≡ length (render s m) + length rest
+  segments-long m = front-long (writeSegments s m) (segments-front m)

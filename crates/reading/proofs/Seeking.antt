@@ -19,7 +19,7 @@ use Rattle.reading.specs.declared.cursor.End.{End}
 use Rattle.reading.specs.declared.cursor.End.the-variants.{At, Nowhere}
 use Rattle.reading.specs.declared.lookup.Seek.{Seek}
 use Rattle.reading.specs.declared.lookup.Sought.{Sought}
-use Rattle.reading.specs.declared.lookup.Sought.the-variants.{On, Lies}
+use Rattle.reading.specs.declared.lookup.Sought.the-variants.{On, Ends}
 use Rattle.reading.proofs.Ending.{end-within}
 
 -- ---- what a byte makes of a search, and a search of a span, once the tests are known
@@ -30,7 +30,7 @@ module _ (e c : ℕ) (k : Seek) (at : ℕ) (kind : Kind) where
   freed = seek (k .element) (k .component) (k .start) false
 
   abbrev unreleased : Bool → Sought
-  unreleased ends = pick ends (Lies (span (k .start) at)) (passed k at kind)
+  unreleased ends = pick ends (Ends (span (k .start) at)) (passed k at kind)
 
   abbrev by-release : Bool → Sought
   by-release released = pick released (On freed) (unreleased (endsComponent kind && isHere k e c))
@@ -38,7 +38,7 @@ module _ (e c : ℕ) (k : Seek) (at : ℕ) (kind : Kind) where
   pub sought-released : (next : Seek) → k .released ≡ true → next ≡ freed → On next ≡ sought e c k at kind
   sought-released next r h = ap On h ∙ sym (ap by-release r)
 
-  pub sought-here : k .released ≡ false → endsComponent kind && isHere k e c ≡ true → Lies (span (k .start) at) ≡ sought e c k at kind
+  pub sought-here : k .released ≡ false → endsComponent kind && isHere k e c ≡ true → Ends (span (k .start) at) ≡ sought e c k at kind
   sought-here r h = sym (ap by-release r ∙ ap unreleased h)
 
   pub sought-passed : (next : Sought) → k .released ≡ false → endsComponent kind && isHere k e c ≡ false → next ≡ passed k at kind → next ≡ sought e c k at kind
@@ -74,7 +74,7 @@ pub record Kept (at : ℕ) (k : Seek) : Type 0 where
 -- a search that goes on keeps so, and one that has ended lies before the byte
 abbrev Keeps : ℕ → Sought → Type 0
 Keeps at (On k) = Kept (at + 1) k
-Keeps at (Lies x) = (x .start ≤ x .end) × (x .end ≤ at)
+Keeps at (Ends x) = (x .start ≤ x .end) × (x .end ≤ at)
 
 keeps-pick : (t : Bool) (at : ℕ) (x y : Sought) → Keeps at x → Keeps at y → Keeps at (pick t x y)
 keeps-pick true at x y h k = h
@@ -122,8 +122,8 @@ module _ (s : Service) (bs : List ℕ) (from e c : ℕ) where
   seeking-turn k at kind r h i ek er = sym (i .same) ∙ rw (drop-cons bs at 0 h, er, ek, add-one)
 
   pub seeking-lies : (k : Seek) (at : ℕ) (kind : Kind) (x : Span) → at < length bs → Seeking s bs from e c k at → kind ≡ kindOf s (getD bs at 0)
-      → Lies x ≡ sought e c k at kind → x ≡ seekFrom s bs from e c
-  seeking-lies k at kind x h i ek er = sym (seeking-turn k at kind (Lies x) h i ek er)
+      → Ends x ≡ sought e c k at kind → x ≡ seekFrom s bs from e c
+  seeking-lies k at kind x h i ek er = sym (seeking-turn k at kind (Ends x) h i ek er)
 
   pub seeking-on : (k next : Seek) (at : ℕ) (kind : Kind) → at < length bs → Seeking s bs from e c k at → kind ≡ kindOf s (getD bs at 0)
       → On next ≡ sought e c k at kind → Seeking s bs from e c next (at + 1)
@@ -152,7 +152,7 @@ seek-on-inside s e c k at (b ∷ bs) h = go (sought e c k at (kindOf s b)) (keep
     go : (r : Sought) → Keeps at r → ((next : Seek) → Kept (at + 1) next → Inside (at + 1 + length bs) (seekOn s e c next (at + 1) bs))
         → Inside (at + suc (length bs)) (goOn r (λ next. seekOn s e c next (at + 1) bs))
     go (On next) h further = let w = further next h in record { ordered = w .ordered; within = let x = w .within in omega arith }
-    go (Lies x) h further = record { ordered = h .0; within = let y = h .1 in omega arith }
+    go (Ends x) h further = record { ordered = h .0; within = let y = h .1 in omega arith }
 
 pub span-inside : (s : Service) (bs : List ℕ) (at e c : ℕ) → Inside (length bs) (componentSpan s bs at e c)
 span-inside s bs at e c = zero-element (eqb e 0)

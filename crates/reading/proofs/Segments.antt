@@ -5,8 +5,8 @@ use mathlib.Core.Path.{_≡_, refl, sym, ap, _∙_}
 use mathlib.Core.List.{List, [], _∷_}
 use mathlib.Core.Option.{Option, some, none}
 use mathlib.Core.Bool.{Bool, true, false, true≢false}
-use Rattle.reading.specs.Service.{All, Good, isData, isTag, mustRelease}
-use Rattle.reading.specs.Message.{released, ValidComponent, ValidElement, ValidSegment, writeComponent, writeMore, writeElement, writeElements, writeSegment}
+use Rattle.reading.specs.Service.{All, GoodService, isData, isTagByte, mustRelease}
+use Rattle.reading.specs.Message.{released, ValidComponent, ValidElement, ValidSegment, writeComponent, writeMore, writeElements, writeSegment}
 use Rattle.reading.specs.Message as message
 use Rattle.reading.specs.Machine.{pick, kindOf, afterTag, afterTagged, afterInside, afterReleased, stepped, isStart, isDead}
 use Rattle.reading.specs.declared.service.Service.{Service}
@@ -47,7 +47,7 @@ module _ (s : Service) where
   behind-dead [] = refl
   behind-dead (b ∷ bs) = refl
 
-module _ (s : Service) (good : Good s) where
+module _ (s : Service) (good : GoodService s) where
   -- ---- over what is written, the terminator is found
 
   behind-released : (b : ℕ) (rest : List ℕ) → afterReleased (kindOf s b) ≡ Inside → behind s Inside (s .release ∷ b ∷ rest) ≡ behind s Inside rest
@@ -79,7 +79,7 @@ module _ (s : Service) (good : Good s) where
   -- an element, from its first component on
   behind-element : (x : message.Element) (rest : List ℕ) → ValidElement x
       → behind s Inside (writeComponent s (x .first) (writeMore s (x .more) rest)) ≡ behind s Inside rest
-  behind-element x rest v = behind-component (x .first) _ (v .0) ∙ behind-more (x .more) rest (v .1)
+  behind-element x rest v = behind-component (x .first) _ (v .first) ∙ behind-more (x .more) rest (v .more)
 
   behind-inside : (xs : List message.Element) (rest : List ℕ) → All ValidElement xs → behind s Inside (writeElements s xs (s .terminator ∷ rest)) ≡ some rest
   unfolding writeElements
@@ -95,10 +95,10 @@ module _ (s : Service) (good : Good s) where
 
   pub behind-segment : (g : message.Segment) (rest : List ℕ) → ValidSegment g → behind s Start (writeSegment s g rest) ≡ some rest
   behind-segment g rest v =
-      behind-step s Start Second (g .tag .first) _ (ap (λ (t : Bool). afterTag t Second) (v .0 .0))
-      ∙ behind-step s Second Third (g .tag .second) _ (ap (λ (t : Bool). afterTag t Third) (v .0 .1))
-      ∙ behind-step s Third Tagged (g .tag .third) _ (ap (λ (t : Bool). afterTag t Tagged) (v .0 .2))
-      ∙ behind-tagged (g .elements) rest (v .1)
+      behind-step s Start Second (g .tag .first) _ (ap (λ (t : Bool). afterTag t Second) (v .tag .first))
+      ∙ behind-step s Second Third (g .tag .second) _ (ap (λ (t : Bool). afterTag t Third) (v .tag .second))
+      ∙ behind-step s Third Tagged (g .tag .third) _ (ap (λ (t : Bool). afterTag t Tagged) (v .tag .third))
+      ∙ behind-tagged (g .elements) rest (v .elements)
 
   -- ---- where a terminator is found, a valid segment is written
 
@@ -110,14 +110,14 @@ module _ (s : Service) (good : Good s) where
 
   record FromThird (rest bs : List ℕ) : Type 0 where
     tag : ℕ
-    valid : isTag tag ≡ true
+    valid : isTagByte tag ≡ true
     tail : List ℕ
     after : FromTagged rest tail
     same : bs ≡ tag ∷ tail
 
   record FromSecond (rest bs : List ℕ) : Type 0 where
     tag : ℕ
-    valid : isTag tag ≡ true
+    valid : isTagByte tag ≡ true
     tail : List ℕ
     after : FromThird rest tail
     same : bs ≡ tag ∷ tail
@@ -162,20 +162,20 @@ module _ (s : Service) (good : Good s) where
   Next Released rest bs = FromReleased rest bs
   Next Dead rest bs = ⊥
 
-  on-start : (rest : List ℕ) (b : ℕ) (bs : List ℕ) (t : Bool) → isTag b ≡ t → Next (afterTag t Second) rest bs → FromStart rest (b ∷ bs)
+  on-start : (rest : List ℕ) (b : ℕ) (bs : List ℕ) (t : Bool) → isTagByte b ≡ t → Next (afterTag t Second) rest bs → FromStart rest (b ∷ bs)
   on-start rest b bs false e f = absurd f
   on-start rest b bs true e f =
       record {
         segment = record { tag = record { first = b; second = f .tag; third = f .after .tag }; elements = f .after .after .elements };
-        valid = ((e, f .valid, f .after .valid), f .after .after .valid);
+        valid = record { tag = record { first = e; second = f .valid; third = f .after .valid }; elements = f .after .after .valid };
         same = cc (f .same, f .after .same, f .after .after .same);
       }
 
-  on-second : (rest : List ℕ) (b : ℕ) (bs : List ℕ) (t : Bool) → isTag b ≡ t → Next (afterTag t Third) rest bs → FromSecond rest (b ∷ bs)
+  on-second : (rest : List ℕ) (b : ℕ) (bs : List ℕ) (t : Bool) → isTagByte b ≡ t → Next (afterTag t Third) rest bs → FromSecond rest (b ∷ bs)
   on-second rest b bs false e f = absurd f
   on-second rest b bs true e f = record { tag = b; valid = e; tail = bs; after = f; same = refl }
 
-  on-third : (rest : List ℕ) (b : ℕ) (bs : List ℕ) (t : Bool) → isTag b ≡ t → Next (afterTag t Tagged) rest bs → FromThird rest (b ∷ bs)
+  on-third : (rest : List ℕ) (b : ℕ) (bs : List ℕ) (t : Bool) → isTagByte b ≡ t → Next (afterTag t Tagged) rest bs → FromThird rest (b ∷ bs)
   on-third rest b bs false e f = absurd f
   on-third rest b bs true e f = record { tag = b; valid = e; tail = bs; after = f; same = refl }
 
@@ -184,7 +184,7 @@ module _ (s : Service) (good : Good s) where
   an-element rest b bs e f =
       record {
         elements = record { first = f .first; more = f .more } ∷ f .after .elements;
-        valid = (f .valid, f .after .valid);
+        valid = (record { first = f .valid .0; more = f .valid .1 }, f .after .valid);
         same = cc (e, f .same, f .after .same);
       }
 
@@ -235,9 +235,9 @@ module _ (s : Service) (good : Good s) where
   on-released rest b bs Other (other d t) f = absurd f
 
   on-byte : (p : State) (rest : List ℕ) (b : ℕ) (bs : List ℕ) → Next (stepped s p b) rest bs → From p rest (b ∷ bs)
-  on-byte Start rest b bs f = on-start rest b bs (isTag b) refl f
-  on-byte Second rest b bs f = on-second rest b bs (isTag b) refl f
-  on-byte Third rest b bs f = on-third rest b bs (isTag b) refl f
+  on-byte Start rest b bs f = on-start rest b bs (isTagByte b) refl f
+  on-byte Second rest b bs f = on-second rest b bs (isTagByte b) refl f
+  on-byte Third rest b bs f = on-third rest b bs (isTagByte b) refl f
   on-byte Tagged rest b bs f = on-tagged rest b bs (kindOf s b) (see s b) f
   on-byte Inside rest b bs f = on-inside rest b bs (kindOf s b) (see s b) f
   on-byte Released rest b bs f = on-released rest b bs (kindOf s b) (see s b) f

@@ -2,10 +2,10 @@
 use Prim.Native.Nat.{ℕ}
 use native.Mathlib.Omega.{arith}
 use mathlib.Core.Path.{_≡_, refl, sym, ap, _∙_}
-use mathlib.Core.Bool.{Bool, true, false, or-true}
+use mathlib.Core.Bool.{Bool, true, false, or-true, true≢false}
 use lib.Dec.{eqb}
 use borrow.Author.Tests.{eq-eqb, ne-eqb, eqb-true}
-use Rattle.reading.specs.Service.{Good, standard, isData, mustRelease}
+use Rattle.reading.specs.Service.{GoodService, standard, isData, isWordByte, mustRelease}
 use Rattle.reading.specs.Machine.{pick, kindOf}
 use Rattle.reading.specs.declared.service.Service.{Service}
 use Rattle.reading.specs.declared.bytes.Kind.{Kind}
@@ -33,7 +33,23 @@ see s b = go (eqb b (s .release)) (eqb b (s .component)) (eqb b (s .element)) (e
     go false false false false true hr hc he ht hd = plain hd (simp (hr, hc, he, ht))
     go false false false false false hr hc he ht hd = other hd (simp (hr, hc, he, ht))
 
-pub good-standard : Good standard
+-- what must be released under the standard set is none of the word bytes
+standard-words : (b : ℕ) → isWordByte b ≡ true → mustRelease standard b ≡ false
+unfolding isWordByte isData
+standard-words b h = go (kindOf standard b) (see standard b)
+  where
+    no-word : (k : ℕ) → b ≡ k → isWordByte k ≡ false → mustRelease standard b ≡ false
+    no-word k e n = absurd (true≢false (sym h ∙ ap isWordByte e ∙ n))
+
+    go : (k : Kind) → Seen standard b k → mustRelease standard b ≡ false
+    go Component (component e t) = no-word 0x3a e refl
+    go Element (element e t) = no-word 0x2b e refl
+    go Terminator (terminator e t) = no-word 0x27 e refl
+    go Release (release e t) = no-word 0x3f e refl
+    go Plain (plain d t) = t
+    go Other (other d t) = t
+
+pub good-standard : GoodService standard
 unfolding isData
 good-standard =
     record {
@@ -42,6 +58,7 @@ good-standard =
         (omega arith, (omega arith, (omega arith, (omega arith, tt)))),
         ((omega arith, (omega arith, (omega arith, tt))), ((omega arith, (omega arith, tt)), ((omega arith, tt), (tt, tt)))),
       );
+      words = standard-words;
     }
 
 module _ (s : Service) where
@@ -62,7 +79,7 @@ module _ (s : Service) where
   unfolding mustRelease
   release-terminator = simp (eq-eqb (s .terminator) (s .terminator) refl, or-true)
 
-module _ (s : Service) (good : Good s) where
+module _ (s : Service) (good : GoodService s) where
   -- a good set's facts by name
   pub component-data : isData (s .component) ≡ true
   component-data = good .bytes .0

@@ -1,31 +1,29 @@
--- Law span: a component is found where 01 says that it lies, for any bytes and any offset; and what lies there is its value.
-use Prim.Native.Nat.{ℕ, zero, suc, _+_, _-_, _≤_, _<_}
+-- Law span: a component is found where 01 says that it lies, for any bytes and any offset.
+use Prim.Native.Nat.{ℕ, zero, suc, _+_, _≤_}
 use native.Mathlib.Omega.{arith}
-use native.Mathlib.Numerals.{add-one}
 use mathlib.Core.Path.{_≡_, refl, sym, ap, _∙_}
-use mathlib.Core.List.{List, [], _∷_, _++_}
-use mathlib.Core.Bool.{Bool, true, false, _&&_, true≢false}
-use mathlib.Core.Logic.{_⊎_, ⊎-elim}
-use lib.Dec.{eqb, eqb·suc-zero}
-use lib.ListN.{length, take, drop, length-drop}
-use lib.Seq.{take-append-seam, drop-append-seam, drop-drop}
+use mathlib.Core.List.{List, [], _∷_}
+use mathlib.Core.Bool.{Bool, true, false, true≢false}
+use mathlib.Core.Logic.{⊎-elim}
+use lib.Dec.{eqb·suc-zero}
+use lib.ListN.{length, drop}
+use lib.Seq.{drop-drop}
 use borrow.Author.Tests.{eq-eqb, ne-eqb}
-use Rattle.reading.specs.Service.{All, Good, isData, mustRelease}
-use Rattle.reading.specs.Message.{released, ValidComponent, ValidElement, ValidSegment, writeComponent, writeMore, writeElement, writeElements, writeSegment}
+use Rattle.reading.specs.Service.{All, GoodService, isData, mustRelease}
+use Rattle.reading.specs.Message.{released, ValidComponent, ValidElement, writeComponent, writeMore, writeElement, writeElements}
 use Rattle.reading.specs.Message as message
 use Rattle.reading.specs.WellFormed.{SegmentAt, NoSegmentAt, endOf}
-use Rattle.reading.specs.Component.{Place, present, absent, nowhere, Lies, in-segment, no-segment, placeIn, placeInComponents, placeInElements, componentsOf, valueInComponents, valueInElements, valueAt, span, spanOf}
-use Rattle.reading.specs.Machine.{pick, kindOf, seek, isHere, sought, goOn, seekOn, seekFrom, spanBy, componentSpan, segmentEnd}
+use Rattle.reading.specs.Component.{ComponentPlace, nowhere, Lies, in-segment, no-segment, placeIn, placeInComponents, placeInElements, span, spanOf}
+use Rattle.reading.specs.Machine.{pick, kindOf, seek, isHere, sought, goOn, seekOn, spanBy, componentSpan}
 use Rattle.reading.specs.declared.service.Service.{Service}
 use Rattle.reading.specs.declared.span.Span.{Span}
 use Rattle.reading.specs.declared.bytes.Kind.{Kind}
 use Rattle.reading.specs.declared.bytes.Kind.the-variants.{Component, Element, Terminator, Release, Plain, Other}
 use Rattle.reading.specs.declared.lookup.Seek.{Seek}
 use Rattle.reading.specs.declared.lookup.Sought.{Sought}
-use Rattle.reading.specs.declared.cursor.End.{End}
 use Rattle.reading.proofs.Services.{Seen, see, kind-release, kind-component, kind-element, kind-terminator}
 use Rattle.reading.proofs.Services.Seen.{component, element, terminator, release, plain, other}
-use Rattle.reading.proofs.Rendering.{component-front, component-long, more-long, element-long, elements-long}
+use Rattle.reading.proofs.Rendering.{component-long, element-long}
 use Rattle.reading.proofs.Cursors.{segment-or-none, end-of-segment, end-of-none}
 
 -- ---- is this the component that is sought?
@@ -46,7 +44,7 @@ go-on-pick : (t : Bool) (x y : Sought) (more : Seek → Span) → goOn (pick t x
 go-on-pick true x y more = refl
 go-on-pick false x y more = refl
 
-module _ (s : Service) (good : Good s) (e c : ℕ) where
+module _ (s : Service) (good : GoodService s) (e c : ℕ) where
   -- a search at `at`, with nothing released
   abbrev seeks : ℕ → ℕ → ℕ → ℕ → List ℕ → Span
   seeks el co start at bs = seekOn s e c (seek el co start false) at bs
@@ -133,12 +131,12 @@ module _ (s : Service) (good : Good s) (e c : ℕ) where
   past-element : (el at : ℕ) (x : message.Element) (rest : List ℕ) → (el ≡ e → ⊥) → ValidElement x
       → Passed el (at + 1) (writeComponent s (x .first) (writeMore s (x .more) rest)) (at + length (writeElement s x [])) rest 1 (at + 1)
   past-element el at x rest h valid =
-      let r = past-more el 1 (at + 1) (at + 1 + length (writeComponent s (x .first) [])) (x .more) rest h (valid .1) in
+      let r = past-more el 1 (at + 1) (at + 1 + length (writeComponent s (x .first) [])) (x .more) rest h (valid .more) in
       record {
         component = r .component;
         start-there = r .start-there;
         same =
-            over-component el 1 (at + 1) (at + 1) (x .first) (writeMore s (x .more) rest) (valid .0) ∙ r .same
+            over-component el 1 (at + 1) (at + 1) (x .first) (writeMore s (x .more) rest) (valid .first) ∙ r .same
             ∙ ap (λ (y : ℕ). seeks el (r .component) (r .start-there) y rest) (omega (arith, component-long s (x .first) (writeMore s (x .more) [])));
       }
 
@@ -168,7 +166,7 @@ module _ (s : Service) (good : Good s) (e c : ℕ) where
   in-components : (left co at : ℕ) (v : message.Component) (vs : List message.Component) (xs : List message.Element) (rest : List ℕ) (total end : ℕ)
       → co + left ≡ c → ValidComponent v → All ValidComponent vs → All ValidElement xs
       → at + length (writeComponent s v (writeMore s vs (writeElements s xs []))) ≡ end
-      → seeks e co at at (writeComponent s v (writeMore s vs (writeElements s xs (s .terminator ∷ rest)))) ≡ spanOf total (placeInComponents s end at (suc left) (v ∷ vs))
+      → seeks e co at at (writeComponent s v (writeMore s vs (writeElements s xs (s .terminator ∷ rest)))) ≡ spanOf total (placeInComponents s end at left (v ∷ vs))
   unfolding writeMore
   in-components zero co at v vs xs rest total end n valid valids others ends =
       let same : co ≡ c = omega arith in
@@ -191,7 +189,7 @@ module _ (s : Service) (good : Good s) (e c : ℕ) where
   -- element `el` has been passed, and `left` more come before the one that is sought
   in-elements : (left el co start at : ℕ) (xs : List message.Element) (rest : List ℕ) (before total end : ℕ)
       → el + suc left ≡ e → 1 + before ≡ c → All ValidElement xs → at + length (writeElements s xs []) ≡ end
-      → seeks el co start at (writeElements s xs (s .terminator ∷ rest)) ≡ spanOf total (placeInElements s end at (suc left) (suc before) xs)
+      → seeks el co start at (writeElements s xs (s .terminator ∷ rest)) ≡ spanOf total (placeInElements s end at left before xs)
   unfolding writeElements
   in-elements left el co start at [] rest before total end n m valid ends =
       at-terminator el co start at rest ∙ rw (other-element e c el co start (omega arith)) (ap (λ (x : ℕ). span x x) (omega arith))
@@ -200,7 +198,7 @@ module _ (s : Service) (good : Good s) (e c : ℕ) where
       at-element el co start at _
       ∙ rw (other-element e c el co start (omega arith))
       (ap (λ (y : ℕ). seeks y 1 (at + 1) (at + 1) (writeComponent s (x .first) (writeMore s (x .more) (writeElements s xs (s .terminator ∷ rest))))) same
-      ∙ in-components before 1 (at + 1) (x .first) (x .more) xs rest total end m (valid .0 .0) (valid .0 .1) (valid .1) (omega arith))
+      ∙ in-components before 1 (at + 1) (x .first) (x .more) xs rest total end m (valid .0 .first) (valid .0 .more) (valid .1) (omega arith))
   in-elements (suc left) el co start at (x ∷ xs) rest before total end n m valid ends =
       let r = past-element (el + 1) at x (writeElements s xs (s .terminator ∷ rest)) (omega arith) (valid .0) in
       at-element el co start at _
@@ -208,17 +206,17 @@ module _ (s : Service) (good : Good s) (e c : ℕ) where
       ∙ in-elements left (el + 1) (r .component) (r .start-there) (at + length (writeElement s x [])) xs rest before total end (omega arith) m (valid .1)
       (omega (arith, element-long s x (writeElements s xs [])))
 
-module _ (s : Service) (good : Good s) where
-  pub span-in-segment : (bs : List ℕ) (at e c : ℕ) (g : message.Segment) (rest : List ℕ) → SegmentAt s bs at g rest
+module _ (s : Service) (good : GoodService s) where
+  pub span-in-segment : (bs : List ℕ) (at e c : ℕ) (g : message.Segment) → SegmentAt s bs at g
       → componentSpan s bs at e c ≡ spanOf (length bs) (placeIn s at g e c)
-  span-in-segment bs at zero c g rest i = refl
-  span-in-segment bs at (suc e) zero g rest i = rw (eqb·suc-zero e)
-  span-in-segment bs at (suc e) (suc c) g rest i =
-      let tail : drop (at + 3) bs ≡ writeElements s (g .elements) (s .terminator ∷ rest) = sym (drop-drop 3 at bs) ∙ ap (drop 3) (i .same) in
+  span-in-segment bs at zero c g i = refl
+  span-in-segment bs at (suc e) zero g i = rw (eqb·suc-zero e)
+  span-in-segment bs at (suc e) (suc c) g i =
+      let tail : drop (at + 3) bs ≡ writeElements s (g .elements) (s .terminator ∷ i .rest) = sym (drop-drop 3 at bs) ∙ ap (drop 3) (i .same) in
       rw (eqb·suc-zero e, eqb·suc-zero c)
-      (ap (spanBy s bs at (suc e) (suc c)) (end-of-segment s good bs at g rest i)
+      (ap (spanBy s bs at (suc e) (suc c)) (end-of-segment s good bs at g i)
       ∙ ap (seekOn s (suc e) (suc c) (seek 0 0 (at + 3) false) (at + 3)) tail
-      ∙ in-elements s good (suc e) (suc c) e 0 0 (at + 3) (at + 3) (g .elements) rest c (length bs) (endOf s at g) (omega arith) (omega arith) (i .valid .1) refl)
+      ∙ in-elements s good (suc e) (suc c) e 0 0 (at + 3) (at + 3) (g .elements) (i .rest) c (length bs) (endOf s at g) (omega arith) (omega arith) (i .valid .elements) refl)
 
   pub span-of-none : (bs : List ℕ) (at e c : ℕ) → NoSegmentAt s bs at → componentSpan s bs at e c ≡ span (length bs) (length bs)
   span-of-none bs at zero c none-there = refl
@@ -227,11 +225,11 @@ module _ (s : Service) (good : Good s) where
       rw (eqb·suc-zero e, eqb·suc-zero c) (ap (spanBy s bs at (suc e) (suc c)) (end-of-none s good bs at none-there))
 
   -- the law: a component's span is that of the place where it lies
-  pub lies-at : (bs : List ℕ) (at e c : ℕ) (p : Place) → Lies s bs at e c p → componentSpan s bs at e c ≡ spanOf (length bs) p
-  lies-at bs at e c p (in-segment g rest i) = span-in-segment bs at e c g rest i
+  pub lies-at : (bs : List ℕ) (at e c : ℕ) (p : ComponentPlace) → Lies s bs at e c p → componentSpan s bs at e c ≡ spanOf (length bs) p
+  lies-at bs at e c p (in-segment g i) = span-in-segment bs at e c g i
   lies-at bs at e c p (no-segment none-there) = span-of-none bs at e c none-there
 
   -- and it lies somewhere
-  pub lies : (bs : List ℕ) (at e c : ℕ) → (p : Place) × Lies s bs at e c p
+  pub lies : (bs : List ℕ) (at e c : ℕ) → (p : ComponentPlace) × Lies s bs at e c p
   lies bs at e c =
-      ⊎-elim (λ f. (placeIn s at (f .0) e c, in-segment (f .0) (f .1) (f .2))) (λ none-there. (nowhere, no-segment none-there)) (segment-or-none s good bs at)
+      ⊎-elim (λ f. (placeIn s at (f .0) e c, in-segment (f .0) (f .1))) (λ none-there. (nowhere, no-segment none-there)) (segment-or-none s good bs at)

@@ -15,7 +15,7 @@ abbrev pub keptOrReleased : Bool → ℕ → List ℕ → List ℕ → List ℕ
 keptOrReleased true b kept released = released
 keptOrReleased false b kept released = b ∷ kept
 
--- 01: "A component's value is its bytes with each releasing `?` removed." (Here: is the next byte a released one?)
+-- 01: "A component's value is its bytes with each releasing `?` removed." The Bool: the next byte is released.
 unfoldable pub valueFrom : Service → Bool → List ℕ → List ℕ
 valueFrom s r [] = []
 valueFrom s true (b ∷ bs) = b ∷ valueFrom s false bs
@@ -27,62 +27,61 @@ valueOf s bs = valueFrom s false bs
 abbrev pub componentsOf : Element → List Component
 componentsOf x = x .first ∷ x .more
 
--- "Elements count from 1, components from 1 within their element." "An absent component has the empty value."
+-- the component with c others before it, in its element with e others before it; 01: "An absent component has the empty value."
 abbrev pub valueInComponents : ℕ → List Component → Component
 valueInComponents c [] = []
-valueInComponents zero (v ∷ vs) = []
-valueInComponents (suc zero) (v ∷ vs) = v
-valueInComponents (suc (suc c)) (v ∷ vs) = valueInComponents (suc c) vs
+valueInComponents zero (v ∷ vs) = v
+valueInComponents (suc c) (v ∷ vs) = valueInComponents c vs
 
 abbrev pub valueInElements : ℕ → ℕ → List Element → Component
 valueInElements e c [] = []
-valueInElements zero c (x ∷ xs) = []
-valueInElements (suc zero) c (x ∷ xs) = valueInComponents c (componentsOf x)
-valueInElements (suc (suc e)) c (x ∷ xs) = valueInElements (suc e) c xs
+valueInElements zero c (x ∷ xs) = valueInComponents c (componentsOf x)
+valueInElements (suc e) c (x ∷ xs) = valueInElements e c xs
 
+-- 01: "Elements count from 1, components from 1 within their element."
 abbrev pub valueAt : Segment → ℕ → ℕ → Component
-valueAt g e c = valueInElements e c (g .elements)
+valueAt g zero c = []
+valueAt g (suc e) zero = []
+valueAt g (suc e) (suc c) = valueInElements e c (g .elements)
 
 -- ---- the place, counted from the message's first byte
 
-pub data Place : Type 0 where
+pub data ComponentPlace : Type 0 where
   -- where its bytes start and where they end; an empty one has a place of its own
-  present : ℕ → ℕ → Place
+  present : ℕ → ℕ → ComponentPlace
   -- where the segment's `'` stands
-  absent : ℕ → Place
-  -- "element or component is 0, or no well-formed segment starts at the given offset"
-  nowhere : Place
+  absent : ℕ → ComponentPlace
+  -- 01: "If element or component is 0, or no well-formed segment starts at the given offset"
+  nowhere : ComponentPlace
 
--- component c of these, the first of which starts at `at`, in a segment whose `'` stands at `end`
-abbrev pub placeInComponents : Service → ℕ → ℕ → ℕ → List Component → Place
+-- the component with c of these before it, the first of which starts at `at`, in a segment whose `'` stands at `end`
+abbrev pub placeInComponents : Service → ℕ → ℕ → ℕ → List Component → ComponentPlace
 placeInComponents s end at c [] = absent end
-placeInComponents s end at zero (v ∷ vs) = nowhere
-placeInComponents s end at (suc zero) (v ∷ vs) = present at (at + length (writeComponent s v []))
-placeInComponents s end at (suc (suc c)) (v ∷ vs) = placeInComponents s end (at + length (writeComponent s v []) + 1) (suc c) vs
+placeInComponents s end at zero (v ∷ vs) = present at (at + length (writeComponent s v []))
+placeInComponents s end at (suc c) (v ∷ vs) = placeInComponents s end (at + length (writeComponent s v []) + 1) c vs
 
--- component c of element e of these, the first of which is opened at `at`
-abbrev pub placeInElements : Service → ℕ → ℕ → ℕ → ℕ → List Element → Place
+-- the same in the element with e of these before it, the first of which is opened at `at`
+abbrev pub placeInElements : Service → ℕ → ℕ → ℕ → ℕ → List Element → ComponentPlace
 placeInElements s end at e c [] = absent end
-placeInElements s end at zero c (x ∷ xs) = nowhere
-placeInElements s end at (suc zero) c (x ∷ xs) = placeInComponents s end (at + 1) c (componentsOf x)
-placeInElements s end at (suc (suc e)) c (x ∷ xs) = placeInElements s end (at + length (writeElement s x [])) (suc e) c xs
+placeInElements s end at zero c (x ∷ xs) = placeInComponents s end (at + 1) c (componentsOf x)
+placeInElements s end at (suc e) c (x ∷ xs) = placeInElements s end (at + length (writeElement s x [])) e c xs
 
 -- of a segment whose tag starts at `at`
-abbrev pub placeIn : Service → ℕ → Segment → ℕ → ℕ → Place
+abbrev pub placeIn : Service → ℕ → Segment → ℕ → ℕ → ComponentPlace
 placeIn s at g zero c = nowhere
 placeIn s at g (suc e) zero = nowhere
-placeIn s at g (suc e) (suc c) = placeInElements s (endOf s at g) (at + 3) (suc e) (suc c) (g .elements)
+placeIn s at g (suc e) (suc c) = placeInElements s (endOf s at g) (at + 3) e c (g .elements)
 
 -- where a component lies in any bytes
-pub data Lies (s : Service) (bs : List ℕ) (at e c : ℕ) : Place → Type 0 where
-  in-segment : (g : Segment) (rest : List ℕ) → SegmentAt s bs at g rest → Lies s bs at e c (placeIn s at g e c)
+pub data Lies (s : Service) (bs : List ℕ) (at e c : ℕ) : ComponentPlace → Type 0 where
+  in-segment : (g : Segment) → SegmentAt s bs at g → Lies s bs at e c (placeIn s at g e c)
   no-segment : NoSegmentAt s bs at → Lies s bs at e c nowhere
 
 abbrev pub span : ℕ → ℕ → Span
 span a b = record { start = a; end = b }
 
--- "if absent, as the empty part at the segment's `'`"; else "the empty part at the message's end comes back"
-abbrev pub spanOf : ℕ → Place → Span
-spanOf length (present a b) = span a b
-spanOf length (absent end) = span end end
-spanOf length nowhere = span length length
+-- 01: "if absent, as the empty part at the segment's `'`"; nowhere: "the empty part at the message's end comes back"
+abbrev pub spanOf : ℕ → ComponentPlace → Span
+spanOf total (present a b) = span a b
+spanOf total (absent end) = span end end
+spanOf total nowhere = span total total

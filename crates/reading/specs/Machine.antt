@@ -5,7 +5,7 @@ use mathlib.Core.List.{List, [], _∷_}
 use mathlib.Core.Bool.{Bool, true, false, _&&_}
 use lib.Dec.{eqb, ltb}
 use lib.ListN.{length, drop}
-use Rattle.reading.specs.Service.{isData, isTag}
+use Rattle.reading.specs.Service.{isData, isTagByte}
 use Rattle.reading.specs.Component.{span}
 use Rattle.reading.specs.declared.service.Service.{Service}
 use Rattle.reading.specs.declared.span.Span.{Span}
@@ -13,16 +13,16 @@ use Rattle.reading.specs.declared.bytes.Kind.{Kind}
 use Rattle.reading.specs.declared.bytes.Kind.the-variants.{Component, Element, Terminator, Release, Plain, Other}
 use Rattle.reading.specs.declared.machine.State.{State}
 use Rattle.reading.specs.declared.machine.State.the-variants.{Start, Second, Third, Tagged, Inside, Released, Dead}
+use Rattle.reading.specs.declared.progress.Progress.{Progress}
 use Rattle.reading.specs.declared.scan.Outcome.{Outcome}
 use Rattle.reading.specs.declared.scan.Outcome.the-variants.{Segments, BadAt}
 use Rattle.reading.specs.declared.cursor.End.{End}
 use Rattle.reading.specs.declared.cursor.End.the-variants.{At, Nowhere}
-use Rattle.reading.specs.declared.cursor.Cursor.{Cursor}
 use Rattle.reading.specs.declared.cursor.Found.{Found}
 use Rattle.reading.specs.declared.cursor.Found.the-variants.{Segment, Nothing}
 use Rattle.reading.specs.declared.lookup.Seek.{Seek}
 use Rattle.reading.specs.declared.lookup.Sought.{Sought}
-use Rattle.reading.specs.declared.lookup.Sought.the-variants.{On, Lies}
+use Rattle.reading.specs.declared.lookup.Sought.the-variants.{On, Ends}
 
 -- ---- a byte
 
@@ -44,7 +44,7 @@ abbrev pub afterTag : Bool → State → State
 afterTag true next = next
 afterTag false next = Dead
 
--- "after a tag only the element or end mark may follow"
+-- 01: "then elements each opened by `+`, then `'`"
 abbrev pub afterTagged : Kind → State
 afterTagged Component = Dead
 afterTagged Element = Inside
@@ -70,9 +70,9 @@ afterReleased Plain = Dead
 afterReleased Other = Dead
 
 abbrev pub stepped : Service → State → ℕ → State
-stepped s Start b = afterTag (isTag b) Second
-stepped s Second b = afterTag (isTag b) Third
-stepped s Third b = afterTag (isTag b) Tagged
+stepped s Start b = afterTag (isTagByte b) Second
+stepped s Second b = afterTag (isTagByte b) Third
+stepped s Third b = afterTag (isTagByte b) Tagged
 stepped s Tagged b = afterTagged (kindOf s b)
 stepped s Inside b = afterInside (kindOf s b)
 stepped s Released b = afterReleased (kindOf s b)
@@ -96,10 +96,28 @@ isDead Inside = false
 isDead Released = false
 isDead Dead = true
 
--- ---- a scan: n segments have ended before the byte at `at`
+-- ---- reading on: n segments have ended before the byte at `at`, and `most` are asked for
 
 abbrev pub ended : State → ℕ → ℕ
 ended p n = pick (isStart p) (n + 1) n
+
+abbrev pub progress : State → ℕ → ℕ → Progress
+progress p n at = record { state = p; segments = n; at = at }
+
+unfoldable pub readOn : Service → ℕ → State → ℕ → ℕ → List ℕ → Progress
+readOn s most p n at [] = progress p n at
+readOn s most p n at (b ∷ bs) =
+    pick (isDead (stepped s p b)) (progress (stepped s p b) n at)
+    (pick (isStart (stepped s p b) && eqb (n + 1) most) (progress (stepped s p b) (n + 1) at)
+    (readOn s most (stepped s p b) (ended (stepped s p b) n) (at + 1) bs))
+
+abbrev pub progressed : Service → List ℕ → ℕ → ℕ → Progress
+progressed s bs from most = readOn s most Start 0 from (drop from bs)
+
+unfoldable pub hasEnded : Progress → Bool
+hasEnded x = isStart (x .state) && ltb 0 (x .segments)
+
+-- ---- a scan
 
 abbrev pub finished : State → ℕ → ℕ → Outcome
 finished p n at = pick (isStart p && ltb 0 n) (Segments n) (BadAt at)
@@ -149,7 +167,7 @@ endsComponent Other = false
 abbrev pub passed : Seek → ℕ → Kind → Sought
 passed k at Component = On (seek (k .element) (k .component + 1) (at + 1) false)
 passed k at Element = On (seek (k .element + 1) 1 (at + 1) false)
-passed k at Terminator = Lies (span at at)
+passed k at Terminator = Ends (span at at)
 passed k at Release = On (seek (k .element) (k .component) (k .start) true)
 passed k at Plain = On k
 passed k at Other = On k
@@ -157,11 +175,11 @@ passed k at Other = On k
 abbrev pub sought : ℕ → ℕ → Seek → ℕ → Kind → Sought
 sought e c k at kind =
     pick (k .released) (On (seek (k .element) (k .component) (k .start) false))
-    (pick (endsComponent kind && isHere k e c) (Lies (span (k .start) at)) (passed k at kind))
+    (pick (endsComponent kind && isHere k e c) (Ends (span (k .start) at)) (passed k at kind))
 
 abbrev pub goOn : Sought → (Seek → Span) → Span
 goOn (On k) more = more k
-goOn (Lies x) more = x
+goOn (Ends x) more = x
 
 unfoldable pub seekOn : Service → ℕ → ℕ → Seek → ℕ → List ℕ → Span
 seekOn s e c k at [] = span at at
@@ -182,8 +200,8 @@ componentSpan s bs at e c =
 
 -- ---- two components
 
-unfoldable pub sameBytes : List ℕ → List ℕ → Bool
-sameBytes [] [] = true
-sameBytes [] (y ∷ ys) = false
-sameBytes (x ∷ xs) [] = false
-sameBytes (x ∷ xs) (y ∷ ys) = eqb x y && sameBytes xs ys
+unfoldable pub sameComponent : List ℕ → List ℕ → Bool
+sameComponent [] [] = true
+sameComponent [] (y ∷ ys) = false
+sameComponent (x ∷ xs) [] = false
+sameComponent (x ∷ xs) (y ∷ ys) = eqb x y && sameComponent xs ys

@@ -4,7 +4,7 @@ use mathlib.Core.Path.{_≡_}
 use mathlib.Core.List.{List, [], _∷_}
 use mathlib.Core.Bool.{Bool, true, false}
 use lib.ListN.{length}
-use Rattle.reading.specs.Service.{All, IsData, isTag, mustRelease}
+use Rattle.reading.specs.Service.{All, IsData, isTagByte, mustRelease}
 use Rattle.reading.specs.declared.service.Service.{Service}
 
 -- ---- what a message is
@@ -13,7 +13,7 @@ use Rattle.reading.specs.declared.service.Service.{Service}
 abbrev pub Component : Type 0
 Component = List ℕ
 
--- an element has at least one component
+-- `+` alone opens an element of one empty component, so an element has at least one
 pub record Element : Type 0 where
   pub first : Component
   pub more : List Component
@@ -31,24 +31,28 @@ pub record Segment : Type 0 where
 abbrev pub Message : Type 0
 Message = List Segment
 
--- ---- which are valid: tags and data of their bytes. "Trailing empty elements and components are allowed."
+-- ---- which are valid: tags of tag bytes, values of data bytes. 01: "Trailing empty elements and components are allowed."
 
 abbrev pub ValidComponent : Component → Type 0
 ValidComponent c = All IsData c
 
-abbrev pub ValidElement : Element → Type 0
-ValidElement e = ValidComponent (e .first) × All ValidComponent (e .more)
+pub record ValidElement (e : Element) : Type 0 where
+  pub first : ValidComponent (e .first)
+  pub more : All ValidComponent (e .more)
 
-abbrev pub ValidTag : Tag → Type 0
-ValidTag t = (isTag (t .first) ≡ true) × (isTag (t .second) ≡ true) × (isTag (t .third) ≡ true)
+pub record ValidTag (t : Tag) : Type 0 where
+  pub first : isTagByte (t .first) ≡ true
+  pub second : isTagByte (t .second) ≡ true
+  pub third : isTagByte (t .third) ≡ true
 
-abbrev pub ValidSegment : Segment → Type 0
-ValidSegment g = ValidTag (g .tag) × All ValidElement (g .elements)
+pub record ValidSegment (g : Segment) : Type 0 where
+  pub tag : ValidTag (g .tag)
+  pub elements : All ValidElement (g .elements)
 
 -- 01: "A message is one or more segments."
 pub record ValidMessage (m : Message) : Type 0 where
   pub segments : All ValidSegment m
-  pub some : 0 < length m
+  pub non-empty : 0 < length m
 
 -- ---- how each part is written, in front of what follows it
 
@@ -78,7 +82,7 @@ writeTag t rest = t .first ∷ t .second ∷ t .third ∷ rest
 abbrev pub writeSegment : Service → Segment → List ℕ → List ℕ
 writeSegment s g rest = writeTag (g .tag) (writeElements s (g .elements) (s .terminator ∷ rest))
 
--- 01: "Nothing stands between segments"
+-- 01: "Nothing stands between segments; CR and LF are faults." (They are no data bytes.)
 unfoldable pub writeSegments : Service → Message → List ℕ → List ℕ
 writeSegments s [] rest = rest
 writeSegments s (g ∷ gs) rest = writeSegment s g (writeSegments s gs rest)

@@ -2,21 +2,21 @@
 use Prim.Native.Nat.{ℕ}
 use mathlib.Core.Path.{_≡_}
 use mathlib.Core.List.{List, [], _∷_}
-use mathlib.Core.Bool.{Bool, true, _&&_, _||_}
+use mathlib.Core.Bool.{Bool, true, false, _&&_, _||_}
 use lib.Dec.{leb, eqb}
 use Rattle.reading.specs.declared.service.Service.{Service}
 
 -- 01: "Separators: `:` component, `+` element, `'` segment end, `?` release." The decimal mark is `.`.
 abbrev pub standard : Service
-standard = record { component = 58; element = 43; decimal = 46; release = 63; terminator = 39 }
+standard = record { component = 0x3a; element = 0x2b; decimal = 0x2e; release = 0x3f; terminator = 0x27 }
 
 -- 01: "Data bytes are 0x20–0x7E and 0xA0–0xFF."
 unfoldable pub isData : ℕ → Bool
 isData b = (leb 0x20 b && leb b 0x7e) || (leb 0xa0 b && leb b 0xff)
 
 -- 01: "a tag of three bytes (A–Z, 0–9)"
-unfoldable pub isTag : ℕ → Bool
-isTag b = (leb 0x30 b && leb b 0x39) || (leb 0x41 b && leb b 0x5a)
+unfoldable pub isTagByte : ℕ → Bool
+isTagByte b = (leb 0x30 b && leb b 0x39) || (leb 0x41 b && leb b 0x5a)
 
 -- 01: "A separator or `?` as data has `?` before it"
 unfoldable pub mustRelease : Service → ℕ → Bool
@@ -41,7 +41,13 @@ Different (b ∷ bs) = All (Differs b) bs × Different bs
 abbrev pub five : Service → List ℕ
 five s = s .component ∷ s .element ∷ s .decimal ∷ s .release ∷ s .terminator ∷ []
 
--- A good set, which the laws about the grammar assume: data bytes, each another one.
-pub record Good (s : Service) : Type 0 where
+-- letters, digits, space, `-` and `.`, of which names and numbers are made
+unfoldable pub isWordByte : ℕ → Bool
+isWordByte b = (leb 0x30 b && leb b 0x39) || (leb 0x41 b && leb b 0x5a) || (leb 0x61 b && leb b 0x7a) || eqb b 0x20 || eqb b 0x2d || eqb b 0x2e
+
+-- A good set, which the laws about the grammar assume: data bytes, no two the same, and, as 02 (T-03) asks of a file's own,
+-- "must not be letters, digits, space, `-`", "and only the decimal mark may be `.`": so no word byte must be released.
+pub record GoodService (s : Service) : Type 0 where
   pub bytes : All IsData (five s)
   pub different : Different (five s)
+  pub words : (b : ℕ) → isWordByte b ≡ true → mustRelease s b ≡ false

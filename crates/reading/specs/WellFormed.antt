@@ -14,11 +14,11 @@ pub record WellFormed (s : Service) (bs : List ℕ) : Type 0 where
   pub valid : ValidMessage message
   pub same : bs ≡ render s message
 
--- "begin a well-formed message": some rest completes them
+-- to begin a well-formed message is to be completed to one by some rest
 abbrev pub Begins : Service → List ℕ → Type 0
 Begins s bs = (rest : List ℕ) × WellFormed s (bs ++ rest)
 
--- Number 4: "smallest offset k such that the first k+1 bytes begin no well-formed message; if none, the length"
+-- 01, number 4: "smallest offset k such that the first k+1 bytes begin no well-formed message; if none, the length"
 pub record FirstBad (s : Service) (bs : List ℕ) (k : ℕ) : Type 0 where
   pub ill-formed : WellFormed s bs → ⊥
   pub within : k ≤ length bs
@@ -30,17 +30,18 @@ abbrev pub Means : Service → List ℕ → Outcome → Type 0
 Means s bs (Segments n) = (w : WellFormed s bs) × (length (w .message) ≡ n)
 Means s bs (BadAt k) = FirstBad s bs k
 
--- where a segment starts: behind what is written of the k segments before it
-abbrev pub startOf : Service → Message → ℕ → ℕ
-startOf s m k = length (render s (take k m))
+-- where the segment behind the first k starts: behind what is written of those
+abbrev pub startAfter : Service → Message → ℕ → ℕ
+startAfter s m k = length (render s (take k m))
 
--- "a well-formed segment starts at the given offset": it is written there, and the rest behind it, whatever that is
-pub record SegmentAt (s : Service) (bs : List ℕ) (at : ℕ) (g : Segment) (rest : List ℕ) : Type 0 where
+-- a well-formed segment starts at an offset where it is written from there on, whatever rest stands behind it
+pub record SegmentAt (s : Service) (bs : List ℕ) (at : ℕ) (g : Segment) : Type 0 where
   pub valid : ValidSegment g
+  pub rest : List ℕ
   pub same : drop at bs ≡ writeSegment s g rest
 
 abbrev pub NoSegmentAt : Service → List ℕ → ℕ → Type 0
-NoSegmentAt s bs at = (g : Segment) (rest : List ℕ) → SegmentAt s bs at g rest → ⊥
+NoSegmentAt s bs at = (g : Segment) → SegmentAt s bs at g → ⊥
 
 -- where the terminator of a segment stands whose tag starts at `at`
 abbrev pub endOf : Service → ℕ → Segment → ℕ

@@ -1,6 +1,6 @@
 // What one byte is: the only place that tests a byte's value.
 ghost use mathlib.Core.Path.{_≡_};
-ghost use Rattle.reading.specs.Service.{isData, isTag};
+ghost use Rattle.reading.specs.Service.{isData, isTagByte};
 ghost use Rattle.reading.specs.Machine.{kindOf};
 use crate::service::Service;
 
@@ -29,8 +29,8 @@ pub fn is_data(byte: u8) -> bool
     true
 }
 
-pub fn is_tag(byte: u8) -> bool
-    ensures { λ r. ⌜ r ≡ isTag byte ⌝ }
+pub fn is_tag_byte(byte: u8) -> bool
+    ensures { λ r. ⌜ r ≡ isTagByte byte ⌝ }
 {
     if byte < b'0' {
         return false;

@@ -1,11 +1,11 @@
 // Two components, compared by value.
 ghost use mathlib.Core.Path.{_≡_};
-ghost use Rattle.reading.specs.Machine.{sameBytes};
+ghost use Rattle.reading.specs.Machine.{sameComponent};
 
 // Two components have the same value exactly when they have the same bytes (law raw-is-value): nothing is released
 // that need not be.
 pub fn same_component(left: &[u8], right: &[u8]) -> bool
-    ensures { λ r. ⌜ r ≡ sameBytes (now (left .entry)) (now (right .entry)) ⌝ }
+    ensures { λ r. ⌜ r ≡ sameComponent (now (left .entry)) (now (right .entry)) ⌝ }
 {
     if left.len() != right.len() {
         return false;

@@ -1,8 +1,7 @@
 // A reading place that moves on from segment to segment.
 ghost use mathlib.Core.Path.{_≡_};
 ghost use Rattle.reading.specs.Machine.{segmentEnd, nextSegment};
-use crate::machine;
-use crate::machine::State;
+use crate::progress;
 use crate::service::Service;
 use crate::span::Span;
 
@@ -16,7 +15,7 @@ pub struct Cursor {
     pub at: usize,
 }
 
-// The segment that starts at a cursor, from its tag up to its terminator, and the cursor behind that.
+// The segment that starts at a cursor, without its terminator, and the cursor behind that.
 pub enum Found {
     Segment(Span, Cursor),
     Nothing,
@@ -26,17 +25,9 @@ pub enum Found {
 pub fn segment_end(service: Service, message: &[u8], at: usize) -> End
     ensures { λ r. ⌜ r ≡ segmentEnd service (now (message .entry)) at ⌝ }
 {
-    let mut state = State::Start;
-    let mut position = at;
-    while position < message.len() {
-        state = machine::step(service, state, message[position]);
-        if machine::is_start(state) {
-            return End::At(position);
-        }
-        if machine::is_dead(state) {
-            return End::Nowhere;
-        }
-        position += 1;
+    let progress = progress::read_segments(service, message, at, 1);
+    if progress::has_ended(progress) {
+        return End::At(progress.at);
     }
     End::Nowhere
 }

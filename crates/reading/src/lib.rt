@@ -1,10 +1,12 @@
 // The reading of bytes: what stands at the bottom and knows nothing of guide books.
-// A reader meets the modules in the order in which a message's bytes do; 01, "Bytes of a message", has the rules.
+// 01, "Bytes of a message", has the rules; to be read in this order: service, bytes, machine, progress, scan, span, cursor,
+// lookup, compare.
 pub mod bytes;
 pub mod compare;
 pub mod cursor;
 pub mod lookup;
 pub mod machine;
+pub mod progress;
 pub mod scan;
 pub mod service;
 pub mod span;

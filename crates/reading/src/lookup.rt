@@ -24,7 +24,7 @@ pub struct Seek {
 // What a byte makes of a search.
 pub enum Sought {
     On(Seek),
-    Lies(Span),
+    Ends(Span),
 }
 
 fn is_here(seek: Seek, element: usize, component: usize) -> bool
@@ -116,7 +116,7 @@ fn pass_byte(seek: Seek, position: usize, kind: Kind) -> Sought
     match kind {
         Kind::Component => Sought::On(seek.next_component(position + 1)),
         Kind::Element => Sought::On(seek.next_element(position + 1)),
-        Kind::Terminator => Sought::Lies(Span::empty_at(position)),
+        Kind::Terminator => Sought::Ends(Span::empty_at(position)),
         Kind::Release => Sought::On(seek.before_released(true)),
         Kind::Plain => Sought::On(seek),
         Kind::Other => Sought::On(seek),
@@ -132,7 +132,7 @@ fn seek_byte(element: usize, component: usize, seek: Seek, position: usize, kind
         return Sought::On(seek.before_released(false));
     }
     if ends_here(seek, element, component, kind) {
-        return Sought::Lies(Span {
+        return Sought::Ends(Span {
             start: seek.start,
             end: position,
         });
@@ -164,7 +164,7 @@ fn seek_from(
             Sought::On(next) => {
                 seek = next;
             }
-            Sought::Lies(span) => {
+            Sought::Ends(span) => {
                 return span;
             }
         }

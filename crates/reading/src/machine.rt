@@ -1,6 +1,6 @@
 // One byte more: the state that reading keeps between bytes, and how a byte moves it.
 ghost use mathlib.Core.Path.{_≡_};
-ghost use Rattle.reading.specs.Service.{isTag};
+ghost use Rattle.reading.specs.Service.{isTagByte};
 ghost use Rattle.reading.specs.Machine.{afterTag, afterTagged, afterInside, afterReleased, stepped, isStart, isDead};
 use crate::bytes;
 use crate::bytes::Kind;
@@ -19,9 +19,9 @@ pub enum State {
 }
 
 fn after_tag(byte: u8, next: State) -> State
-    ensures { λ r. ⌜ r ≡ afterTag (isTag byte) next ⌝ }
+    ensures { λ r. ⌜ r ≡ afterTag (isTagByte byte) next ⌝ }
 {
-    if bytes::is_tag(byte) {
+    if bytes::is_tag_byte(byte) {
         return next;
     }
     State::Dead

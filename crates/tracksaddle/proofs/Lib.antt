@@ -1,3 +1,4 @@
 -- Laws of the C door.
 pub mod Fitting
+pub mod Meaning
 pub mod OneOutcome

@@ -1,4 +1,5 @@
--- What the C door writes into lent tables. 01: "in order, into a lent .. table, as many as fit, with nothing else there changed".
+-- What the C door writes into lent tables: numbers in order, "as many as fit, with nothing else there changed" (01, of the
+-- record; the header promises the same of a component's part).
 use Prim.Native.Nat.{ℕ, _-_}
 use mathlib.Core.List.{List, [], _∷_}
 use Rattle.reading.specs.declared.span.Span.{Span}

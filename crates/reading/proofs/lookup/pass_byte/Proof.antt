@@ -1,7 +1,7 @@
 -- `lookup::pass_byte` meets its contract: in each arm the kind is known, and what is called there is what the definition has.
 use mathlib.Core.Path.{ap}
 use borrow.Author.Needs.{needs}
-use Rattle.reading.specs.declared.lookup.Sought.the-variants.{On, Lies}
+use Rattle.reading.specs.declared.lookup.Sought.the-variants.{On, Ends}
 use Rattle.reading.proofs.lookup.pass_byte.Statement.{statement}
 use Rattle.reading.proofs.lookup.pass_byte.Tie as tie
 
@@ -48,7 +48,7 @@ returns-2 : tie.Need-returns-2
 returns-2 c = rw (c .before .enum-told2 .given .1) (ap On (c .next-element .ensures))
 
 returns-3 : tie.Need-returns-3
-returns-3 c = rw (c .before .enum-told3 .given .1) (ap Lies (c .empty-at .ensures))
+returns-3 c = rw (c .before .enum-told3 .given .1) (ap Ends (c .empty-at .ensures))
 
 returns-4 : tie.Need-returns-4
 returns-4 c = rw (c .before .enum-told4 .given .1) (ap On (c .before-released .ensures))
