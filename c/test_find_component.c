@@ -1,25 +1,15 @@
 /* Tests tracksaddle_find_component from the C side: every answer of the header,
- * over lent tables of 0 to 4 entries between canaries. Each message is lent
- * twice: in a heap buffer of exactly its length, for the address sanitizer, and
- * right before a page that nobody may read. The sanitizer does not see what the
- * archive's own code reads; the page stops it. c/run_tests builds and runs this.
+ * over lent tables of 0 to 4 entries between canaries. c/run_tests builds and
+ * runs this.
  */
-#define _DEFAULT_SOURCE /* mmap and its flags */
-#include "tracksaddle.h"
+#include "testing.h"
 
-#include <stdio.h>
-#include <stdlib.h>
-#include <string.h>
-#include <sys/mman.h>
-#include <unistd.h>
+#include "tracksaddle.h"
 
 enum { LONGEST_TABLE = 4, MARGIN = 2, TABLE_ROOM = MARGIN + LONGEST_TABLE + MARGIN };
 
 /* No offset or length of any message here. */
 static const size_t canary = SIZE_MAX / 3;
-
-static unsigned long checks_made;
-static unsigned long checks_failed;
 
 /* One question and its right answer. */
 struct lookup {
@@ -29,64 +19,6 @@ struct lookup {
     size_t offset;
     size_t length;
 };
-
-/* Where in this file a check stands. */
-struct source {
-    const char *file;
-    int line;
-};
-
-#define HERE ((struct source){__FILE__, __LINE__})
-
-/* A message, wherever it lies. */
-struct message {
-    const uint8_t *bytes;
-    size_t length;
-};
-
-static void give_up(const char *reason)
-{
-    fprintf(stderr, "test_find_component: %s\n", reason);
-    exit(2);
-}
-
-static void *allocate(size_t size)
-{
-    void *memory = malloc(size);
-    if (memory == NULL) {
-        give_up("out of memory");
-    }
-    return memory;
-}
-
-/* The end of one page that may be written, before one that may not be touched. */
-static uint8_t *map_guarded_page(size_t page_size)
-{
-    uint8_t *pages = mmap(NULL, 2 * page_size, PROT_READ | PROT_WRITE,
-                          MAP_PRIVATE | MAP_ANONYMOUS, -1, 0);
-    if (pages == MAP_FAILED || mprotect(pages + page_size, page_size, PROT_NONE) != 0) {
-        give_up("no guarded page");
-    }
-    return pages + page_size;
-}
-
-/* A copy that ends where nothing may be read any more. The next copy replaces
- * it. */
-static struct message copy_before_the_guard(struct message message)
-{
-    static uint8_t *guard;
-    size_t page_size = (size_t)sysconf(_SC_PAGESIZE);
-    struct message copy;
-    if (guard == NULL) {
-        guard = map_guarded_page(page_size);
-    }
-    if (message.length > page_size) {
-        give_up("a message longer than a page");
-    }
-    copy.length = message.length;
-    copy.bytes = memcpy(guard - message.length, message.bytes, message.length);
-    return copy;
-}
 
 static void print_bytes(const uint8_t *bytes, size_t length)
 {
@@ -101,7 +33,7 @@ static void print_bytes(const uint8_t *bytes, size_t length)
     printf("%s (%zu bytes)\n", length > longest_printed ? "..." : "", length);
 }
 
-static void print_failure(struct source source, struct message message,
+static void print_failure(struct source source, struct slice message,
                           struct lookup lookup, size_t table_length,
                           const size_t *expected, const size_t *found)
 {
@@ -127,7 +59,7 @@ static void fill_with_canaries(size_t *table)
 }
 
 /* One call with a table of one length. */
-static void check_table(struct source source, struct message message,
+static void check_table(struct source source, struct slice message,
                         struct lookup lookup, size_t table_length)
 {
     size_t expected[TABLE_ROOM];
@@ -150,19 +82,9 @@ static void check_table(struct source source, struct message message,
     }
 }
 
-static void check_unchanged(struct source source, struct message lent,
-                            struct message original)
-{
-    checks_made++;
-    if (memcmp(lent.bytes, original.bytes, original.length) != 0) {
-        checks_failed++;
-        printf("%s:%d: the message itself was changed\n", source.file, source.line);
-    }
-}
-
 /* The lookup in a lent copy, with a table of every length. */
-static void check_lent(struct source source, struct message lent,
-                       struct message original, struct lookup lookup)
+static void check_lent(struct source source, struct slice lent,
+                       struct slice original, struct lookup lookup)
 {
     for (size_t entries = 0; entries <= LONGEST_TABLE; entries++) {
         check_table(source, lent, lookup, entries);
@@ -170,29 +92,18 @@ static void check_lent(struct source source, struct message lent,
     check_unchanged(source, lent, original);
 }
 
-static void check_on_the_heap(struct source source, struct message original,
-                              struct lookup lookup)
-{
-    /* malloc(0) may be null, which the header forbids: an empty message lies at
-     * the end of one byte that is not its own. */
-    size_t not_its_own = original.length == 0 ? 1 : 0;
-    uint8_t *allocation = allocate(original.length + not_its_own);
-    struct message lent = {allocation + not_its_own, original.length};
-    memcpy(allocation + not_its_own, original.bytes, original.length);
-    check_lent(source, lent, original, lookup);
-    free(allocation);
-}
-
-static void check(struct source source, struct message message, size_t at,
+static void check(struct source source, struct slice message, size_t at,
                   size_t element, size_t component, size_t offset, size_t length)
 {
     struct lookup lookup = {at, element, component, offset, length};
-    check_on_the_heap(source, message, lookup);
+    struct slice on_the_heap = copy_to_the_heap(message);
+    check_lent(source, on_the_heap, message, lookup);
+    free_heap_copy(on_the_heap);
     check_lent(source, copy_before_the_guard(message), message, lookup);
 }
 
 /* A literal text as a message. */
-#define MESSAGE(text) ((struct message){(const uint8_t *)(text), sizeof(text) - 1})
+#define MESSAGE(text) ((struct slice){(const uint8_t *)(text), sizeof(text) - 1})
 
 /* The component lies at this offset and has this length. */
 #define FOUND(text, at, element, component, offset, length) \
@@ -383,7 +294,7 @@ static void check_byte(struct source source, const char *pattern, int byte,
                        int is_allowed, size_t offset, size_t length)
 {
     uint8_t text[LONGEST_PATTERN];
-    struct message message = {text, strlen(pattern)};
+    struct slice message = {text, strlen(pattern)};
     memcpy(text, pattern, message.length);
     text[strcspn(pattern, "*")] = (uint8_t)byte;
     if (is_allowed) {
@@ -438,7 +349,7 @@ static void fill_wide_segment(struct wide_segment *wide, char mark)
 static void check_number(struct source source, const struct wide_segment *wide,
                          char mark, size_t number)
 {
-    struct message message = {wide->text, wide->length};
+    struct slice message = {wide->text, wide->length};
     size_t element = mark == '+' ? number : 1;
     size_t component = mark == '+' ? 1 : number;
     if (number <= MANY) {
@@ -484,7 +395,5 @@ int main(void)
     test_every_byte_in_every_place();
     test_numbers_beyond_255('+');
     test_numbers_beyond_255(':');
-    printf("test_find_component: %lu checks, %lu failed\n", checks_made,
-           checks_failed);
-    return checks_failed == 0 ? 0 : 1;
+    return conclude("test_find_component");
 }

@@ -1,4 +1,5 @@
-/* Tracksaddle for C callers: questions about one EDIFACT message.
+/* Tracksaddle for C callers: questions about one EDIFACT message and about the
+ * guide book that it is judged by.
  *
  * Every function here works on memory that the caller lends for the call. It
  * keeps nothing, allocates nothing and shares no state between calls, so calls
@@ -56,6 +57,20 @@ extern "C" {
 void tracksaddle_find_component(const uint8_t *message, size_t message_len,
                                 size_t at, size_t element, size_t component,
                                 size_t *part, size_t part_len);
+
+/* Checks a guide book. books/README.md says what a book holds and how it is made.
+ *
+ *   book, book_len  the bytes; any bytes are fine
+ *
+ * Returns
+ *   0  the book is good: its bytes keep every rule of the format
+ *   1  the book is malformed: they break at least one
+ *
+ * The answer depends on the bytes alone, so a book that has passed once need not
+ * be checked again. Judging does not rely on this call either: it checks the book
+ * itself and answers 1 for a malformed one.
+ */
+uint32_t tracksaddle_check_book(const uint8_t *book, size_t book_len);
 
 #ifdef __cplusplus
 }

@@ -4,6 +4,7 @@ ghost use lib.ListN.{set};
 ghost use Rattle.tracksaddle.specs.Door.{asManyAsFit, partNumbers};
 ghost use Rattle.reading.specs.Machine.{componentSpan};
 ghost use Rattle.reading.specs.Service.{standard};
+ghost use Rattle.book.specs.GoodBook.{Judged};
 use reading::lookup;
 use reading::service::Service;
 
@@ -32,4 +33,12 @@ pub extern "C" fn tracksaddle_find_component(
     let end = span.end;
     put(part, 0, start);
     put(part, 1, end - start);
+}
+
+// The table's number for the book alone: 1 malformed, 0 otherwise.
+#[no_mangle]
+pub extern "C" fn tracksaddle_check_book(book: &[u8]) -> u32
+    ensures { λ r. ⌜ Judged (now (book .entry)) r ⌝ }
+{
+    book::check_book(book)
 }

@@ -13,6 +13,7 @@ mod declared {
             part: *mut usize,
             part_len: usize,
         );
+        pub fn tracksaddle_check_book(book: *const u8, book_len: usize) -> u32;
         pub fn probe_segments(message: *const u8, message_len: usize) -> usize;
         pub fn probe_bad_place(message: *const u8, message_len: usize) -> usize;
         pub fn probe_next(message: *const u8, message_len: usize, at: usize) -> usize;
@@ -41,6 +42,12 @@ pub fn find_component(
             part.len(),
         )
     }
+}
+
+/// The table's number for the book alone: 1 malformed, 0 otherwise.
+pub fn check_book(book: &[u8]) -> u32 {
+    // SAFETY: as above.
+    unsafe { declared::tracksaddle_check_book(book.as_ptr(), book.len()) }
 }
 
 /// The number of segments, 0 if the message is not well-formed.

@@ -4,6 +4,8 @@
 //!
 //! - [`bytes`]: service characters, data bytes, tag bytes
 //! - [`reading`]: the independent reading of a message
+//! - [`book`]: the independent check of a guide book, random good books, and
+//!   ways to break each rule
 //! - [`machine`]: the state machine in ordinary Rust, the benchmark's yardstick
 //! - [`archives`]: safe calls into the proved archives
 //! - [`enumeration`], [`random`]: where the compared texts come from
@@ -17,10 +19,12 @@
 //! cd tests/independent
 //! export TRACKSADDLE_ARCHIVES=$PWD/../../target/host
 //! cargo run --release --bin compare_reading [SEED]
+//! cargo run --release --bin compare_book ../../books/k.bin ../../books/second.bin [SEED]
 //! cargo run --release --bin bench_reading
 //! ```
 
 pub mod archives;
+pub mod book;
 pub mod bytes;
 pub mod enumeration;
 pub mod machine;

@@ -1,0 +1,22 @@
+-- `check::all_structures_are_good` meets its contract: the count that was read is the guide's.
+use Prim.Native.Nat.{ℕ}
+use mathlib.Core.Path.{ap, _∙_}
+use borrow.Author.Needs.{needs}
+use Rattle.book.specs.GoodBook.{structureRule}
+use Rattle.book.specs.Guide.{guideOf}
+use Rattle.book.specs.Rule.{run, every}
+use Rattle.book.proofs.check.all_structures_are_good.Statement.{statement}
+use Rattle.book.proofs.check.all_structures_are_good.Tie as tie
+
+lines-requires : tie.Need-lines-requires
+lines-requires c κs = search needs
+
+structures-are-good-requires : tie.Need-structures-are-good-requires
+structures-are-good-requires c κs = search needs
+
+returns : tie.Need-returns
+returns c = c .structures-are-good .ensures ∙ ap (λ (n : ℕ). run (every 1 n (structureRule (guideOf (c .before .before .before .args .book .now))))) (c .before .lines .ensures .0)
+
+pub all-structures-are-good-spec : {M : Type 1} → statement M
+all-structures-are-good-spec =
+    tie.close (tie.spec lines-requires structures-are-good-requires returns)

@@ -1,0 +1,41 @@
+-- `check::check_book` meets its contract: what the three tests found decides whether the book is good.
+use native.Mathlib.Omega.{arith}
+use mathlib.Core.Path.{sym, _∙_}
+use borrow.Author.Needs.{needs}
+use borrow.Author.Tests.{not-true, not-false}
+use Rattle.book.proofs.Checking.{header-small, header-bad, records-bad, frame-bad, all-good}
+use Rattle.book.proofs.check.check_book.Statement.{statement}
+use Rattle.book.proofs.check.check_book.Tie as tie
+
+header-is-good-requires : tie.Need-header-is-good-requires
+header-is-good-requires c κs = search needs
+
+returns : tie.Need-returns
+returns c = header-bad _ (sym (c .before .header-is-good .ensures) ∙ not-true _ (c .if1 .taken))
+
+records-are-good-requires : tie.Need-records-are-good-requires
+records-are-good-requires c κs = header-small _ (omega (arith, (c .before .before .shared-slice-known .given) 2)) (omega (arith, (c .before .before .shared-slice-known .given) 3)) (sym (c .before .header-is-good .ensures) ∙ not-false _ (c .if1 .left))
+
+returns-2 : tie.Need-returns-2
+returns-2 c = records-bad _ (sym (c .before .records-are-good .ensures) ∙ not-true _ (c .if2 .taken))
+
+frame-is-good-requires : tie.Need-frame-is-good-requires
+frame-is-good-requires c κs = header-small _ (omega (arith, (c .before .before .before .before .shared-slice-known .given) 2)) (omega (arith, (c .before .before .before .before .shared-slice-known .given) 3)) (sym (c .before .before .before .header-is-good .ensures) ∙ not-false _ (c .before .before .if1 .left))
+
+returns-3 : tie.Need-returns-3
+returns-3 c = frame-bad _ (sym (c .before .frame-is-good .ensures) ∙ not-true _ (c .if3 .taken))
+
+returns-4 : tie.Need-returns-4
+returns-4 c = all-good _ (sym (c .before .before .before .before .before .header-is-good .ensures) ∙ not-false _ (c .before .before .before .before .if1 .left)) (sym (c .before .before .before .records-are-good .ensures) ∙ not-false _ (c .before .before .if2 .left)) (sym (c .before .frame-is-good .ensures) ∙ not-false _ (c .if3 .left))
+
+pub check-book-spec : {M : Type 1} → statement M
+check-book-spec =
+    tie.close
+    (tie.spec
+    header-is-good-requires
+    returns
+    records-are-good-requires
+    returns-2
+    frame-is-good-requires
+    returns-3
+    returns-4)

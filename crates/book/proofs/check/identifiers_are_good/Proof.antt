@@ -1,0 +1,21 @@
+-- `check::identifiers_are_good` meets its contract: the count that was read is the guide's.
+use Prim.Native.Nat.{ℕ}
+use mathlib.Core.Path.{ap, _∙_}
+use borrow.Author.Needs.{needs}
+use Rattle.book.specs.GoodBook.{identifierRule}
+use Rattle.book.specs.Guide.{guideOf}
+use Rattle.book.specs.Rule.{run, every}
+use Rattle.book.proofs.check.identifiers_are_good.Statement.{statement}
+use Rattle.book.proofs.check.identifiers_are_good.Tie as tie
+
+identifiers-requires : tie.Need-identifiers-requires
+identifiers-requires c κs = search needs
+
+every-requires : tie.Need-every-requires
+every-requires c κs = search needs
+
+returns : tie.Need-returns
+returns c = c .every .ensures ∙ ap (λ (n : ℕ). run (every 0 n (identifierRule (guideOf (c .before .before .before .args .book .now))))) (c .before .identifiers .ensures .0)
+
+pub identifiers-are-good-spec : {M : Type 1} → statement M
+identifiers-are-good-spec = tie.close (tie.spec identifiers-requires every-requires returns)

@@ -1,0 +1,56 @@
+-- `every::every` meets its contract. The invariant: the rule holds of what is left exactly when it holds of the whole range.
+use Prim.Native.Nat.{ℕ, _+_}
+use native.Mathlib.Omega.{arith}
+use mathlib.Core.Path.{_≡_, refl, sym, _∙_}
+use borrow.Author.Tests.{not-true, not-false}
+use Rattle.book.specs.Each.{ruleFor}
+use Rattle.book.specs.Guide.{guideOf}
+use Rattle.book.specs.Rule.{run, all}
+use Rattle.book.proofs.Rules.{all-end, all-fail, all-on}
+use Rattle.book.proofs.every.every.Statement.{statement}
+use Rattle.book.proofs.every.every.Tie as tie
+
+abbrev Inv-loop : tie.InvT-loop
+Inv-loop book each subject first count number₀ left₀ number left = (all number left (λ (i : ℕ). run (ruleFor each (guideOf book) subject i)) ≡ all first count (λ (i : ℕ). run (ruleFor each (guideOf book) subject i))) × (number + left ≡ first + count)
+
+abbrev μ-loop : tie.MeasureT-loop
+μ-loop book each subject first count number₀ left₀ number left = left
+
+loop-holds : tie.Need-loop-holds Inv-loop μ-loop
+loop-holds c = (refl, refl)
+
+holds-requires : tie.Need-holds-requires Inv-loop μ-loop
+holds-requires c κs = (omega (arith, (c .before .loop .inv .1), (c .before .before .before .pre .0), (c .loop-test .taken)), (c .before .before .before .pre .1))
+
+returns : tie.Need-returns Inv-loop μ-loop
+returns c = sym (all-fail (λ (i : ℕ). run (ruleFor (c .before .before .before .before .before .args .each) (guideOf ((c .before .before .before .before .before .args .book .now))) (c .before .before .before .before .before .args .subject) i)) (c .before .before .before .loop .number) (c .before .before .before .loop .left) (c .before .before .loop-test .taken) (sym (c .before .holds .ensures) ∙ not-true _ (c .if1 .taken))) ∙ (c .before .before .before .loop .inv .0)
+
+add-number : tie.Need-add-number Inv-loop μ-loop
+add-number c = omega (arith, (c .before .before .before .loop .inv .1), (c .before .before .before .before .before .pre), (c .before .before .loop-test .taken))
+
+sub-left : tie.Need-sub-left Inv-loop μ-loop
+sub-left c = omega (arith, (c .before .before .before .loop .inv .1), (c .before .before .before .before .before .pre), (c .before .before .loop-test .taken))
+
+loop-less : tie.Need-loop-less Inv-loop μ-loop
+loop-less c = omega (arith, (c .before .before .before .loop .inv .1), (c .before .before .before .before .before .pre), (c .before .before .loop-test .taken))
+
+loop-again : tie.Need-loop-again Inv-loop μ-loop
+loop-again c = (all-on (λ (i : ℕ). run (ruleFor (c .before .before .before .before .before .args .each) (guideOf ((c .before .before .before .before .before .args .book .now))) (c .before .before .before .before .before .args .subject) i)) (c .before .before .before .loop .number) (c .before .before .before .loop .left) (c .before .before .loop-test .taken) (sym (c .before .holds .ensures) ∙ not-false _ (c .if1 .left)) ∙ (c .before .before .before .loop .inv .0), omega (arith, (c .before .before .before .loop .inv .1), (c .before .before .loop-test .taken)))
+
+returns-2 : tie.Need-returns-2 Inv-loop μ-loop
+returns-2 c = sym (all-end (λ (i : ℕ). run (ruleFor (c .before .before .before .args .each) (guideOf ((c .before .before .before .args .book .now))) (c .before .before .before .args .subject) i)) (c .before .loop .number) (c .before .loop .left) (c .loop-test .left)) ∙ (c .before .loop .inv .0)
+
+pub every-spec : {M : Type 1} → statement M
+every-spec =
+    tie.close
+    (tie.spec
+    Inv-loop
+    μ-loop
+    loop-holds
+    holds-requires
+    returns
+    add-number
+    sub-left
+    loop-less
+    loop-again
+    returns-2)

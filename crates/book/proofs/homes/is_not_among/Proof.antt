@@ -1,0 +1,35 @@
+-- `homes::is_not_among` meets its contract: the tests are joined as the rule joins its parts.
+use borrow.Author.Needs.{needs}
+use Rattle.book.specs.GoodBook.{notAmongRule}
+use Rattle.book.proofs.homes.is_not_among.Statement.{statement}
+use Rattle.book.proofs.homes.is_not_among.Tie as tie
+
+code-low-requires : tie.Need-code-low-requires
+code-low-requires c κs = search needs
+
+code-high-requires : tie.Need-code-high-requires
+code-high-requires c κs = search needs
+
+first-code-requires : tie.Need-first-code-requires
+first-code-requires c κs = search needs
+
+code-count-requires : tie.Need-code-count-requires
+code-count-requires c κs = search needs
+
+are-other-than-requires : tie.Need-are-other-than-requires
+are-other-than-requires c κs = search needs
+
+returns : tie.Need-returns
+unfolding notAmongRule
+returns c = cc
+
+pub is-not-among-spec : {M : Type 1} → statement M
+is-not-among-spec =
+    tie.close
+    (tie.spec
+    code-low-requires
+    code-high-requires
+    first-code-requires
+    code-count-requires
+    are-other-than-requires
+    returns)

@@ -1,0 +1,53 @@
+-- `identifiers::are_digits` meets its contract: the tests are joined as the rule joins its parts.
+use borrow.Author.Needs.{needs}
+use Rattle.book.proofs.identifiers.are_digits.Statement.{statement}
+use Rattle.book.proofs.identifiers.are_digits.Tie as tie
+
+identifier-byte-requires : tie.Need-identifier-byte-requires
+identifier-byte-requires c κs = search needs
+
+is-digit-requires : tie.Need-is-digit-requires
+is-digit-requires c κs = search needs
+
+identifier-byte-requires-2 : tie.Need-identifier-byte-requires-2
+identifier-byte-requires-2 c κs = search needs
+
+is-digit-requires-2 : tie.Need-is-digit-requires-2
+is-digit-requires-2 c κs = search needs
+
+identifier-byte-requires-3 : tie.Need-identifier-byte-requires-3
+identifier-byte-requires-3 c κs = search needs
+
+is-digit-requires-3 : tie.Need-is-digit-requires-3
+is-digit-requires-3 c κs = search needs
+
+identifier-byte-requires-4 : tie.Need-identifier-byte-requires-4
+identifier-byte-requires-4 c κs = search needs
+
+is-digit-requires-4 : tie.Need-is-digit-requires-4
+is-digit-requires-4 c κs = search needs
+
+identifier-byte-requires-5 : tie.Need-identifier-byte-requires-5
+identifier-byte-requires-5 c κs = search needs
+
+is-digit-requires-5 : tie.Need-is-digit-requires-5
+is-digit-requires-5 c κs = search needs
+
+returns : tie.Need-returns
+returns c = cc
+
+pub are-digits-spec : {M : Type 1} → statement M
+are-digits-spec =
+    tie.close
+    (tie.spec
+    identifier-byte-requires
+    is-digit-requires
+    identifier-byte-requires-2
+    is-digit-requires-2
+    identifier-byte-requires-3
+    is-digit-requires-3
+    identifier-byte-requires-4
+    is-digit-requires-4
+    identifier-byte-requires-5
+    is-digit-requires-5
+    returns)

@@ -1,0 +1,43 @@
+-- `identifiers::rises` meets its contract: the tests are joined as the rule joins its parts.
+use borrow.Author.Needs.{needs}
+use Rattle.book.specs.GoodBook.{identifierRises}
+use Rattle.book.proofs.identifiers.rises.Statement.{statement}
+use Rattle.book.proofs.identifiers.rises.Tie as tie
+
+add-next : tie.Need-add-next
+add-next c = search needs
+
+add-implies : tie.Need-add-implies
+add-implies c = search needs
+
+identifiers-requires : tie.Need-identifiers-requires
+identifiers-requires c κs = search needs
+
+number-of-requires : tie.Need-number-of-requires
+number-of-requires c κs = search needs
+
+add-implies-2 : tie.Need-add-implies-2
+add-implies-2 c = search needs
+
+number-of-requires-2 : tie.Need-number-of-requires-2
+number-of-requires-2 c κs = search needs
+
+implies-requires : tie.Need-implies-requires
+implies-requires c κs = search needs
+
+returns : tie.Need-returns
+unfolding identifierRises
+returns c = cc
+
+pub rises-spec : {M : Type 1} → statement M
+rises-spec =
+    tie.close
+    (tie.spec
+    add-next
+    add-implies
+    identifiers-requires
+    number-of-requires
+    add-implies-2
+    number-of-requires-2
+    implies-requires
+    returns)

@@ -1,0 +1,15 @@
+-- `layout::codes` meets its contract: the guide's number of that name stands at that offset.
+use borrow.Author.Needs.{needs}
+use Rattle.book.specs.Guide.{guideOf}
+use Rattle.book.proofs.layout.codes.Statement.{statement}
+use Rattle.book.proofs.layout.codes.Tie as tie
+
+u16-at-requires : tie.Need-u16-at-requires
+u16-at-requires c κs = search needs
+
+returns : tie.Need-returns
+unfolding guideOf
+returns c = c .u16-at .ensures
+
+pub codes-spec : {M : Type 1} → statement M
+codes-spec = tie.close (tie.spec u16-at-requires returns)

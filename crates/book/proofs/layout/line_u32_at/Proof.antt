@@ -1,0 +1,19 @@
+-- `layout::line_u32_at` meets its contract: it reads where the record begins, plus the offset.
+use borrow.Author.Needs.{needs}
+use Rattle.book.proofs.layout.line_u32_at.Statement.{statement}
+use Rattle.book.proofs.layout.line_u32_at.Tie as tie
+
+line-at-requires : tie.Need-line-at-requires
+line-at-requires c κs = search needs
+
+add-u32-at : tie.Need-add-u32-at
+add-u32-at c = search needs
+
+u32-at-requires : tie.Need-u32-at-requires
+u32-at-requires c κs = search needs
+
+returns : tie.Need-returns
+returns c = rw (← c .before .line-at .ensures .0) (c .u32-at .ensures)
+
+pub line-u32-at-spec : {M : Type 1} → statement M
+line-u32-at-spec = tie.close (tie.spec line-at-requires add-u32-at u32-at-requires returns)

@@ -1,0 +1,35 @@
+-- `lines::tag_byte_is_good` meets its contract: the tests are joined as the rule joins its parts.
+use borrow.Author.Needs.{needs}
+use Rattle.book.specs.GoodBook.{tagByteRule}
+use Rattle.book.proofs.lines.tag_byte_is_good.Statement.{statement}
+use Rattle.book.proofs.lines.tag_byte_is_good.Tie as tie
+
+kind-requires : tie.Need-kind-requires
+kind-requires c κs = search needs
+
+is-capital-requires : tie.Need-is-capital-requires
+is-capital-requires c κs = search needs
+
+is-digit-requires : tie.Need-is-digit-requires
+is-digit-requires c κs = search needs
+
+implies-requires : tie.Need-implies-requires
+implies-requires c κs = search needs
+
+implies-requires-2 : tie.Need-implies-requires-2
+implies-requires-2 c κs = search needs
+
+returns : tie.Need-returns
+unfolding tagByteRule
+returns c = cc
+
+pub tag-byte-is-good-spec : {M : Type 1} → statement M
+tag-byte-is-good-spec =
+    tie.close
+    (tie.spec
+    kind-requires
+    is-capital-requires
+    is-digit-requires
+    implies-requires
+    implies-requires-2
+    returns)

@@ -1,0 +1,51 @@
+-- The order in which a book's rules are tested, and which rule each loop asks for. What a good book is stands in GoodBook.antt.
+use Prim.Native.Nat.{ℕ, _*_, _<_, _^_}
+use mathlib.Core.List.{List}
+use Rattle.book.specs.Guide.{Guide}
+use Rattle.book.specs.Rule.{Rule, _and_, every}
+use Rattle.book.specs.GoodBook.{editionRule, lengthRule, blocksRule, countsRule, lineRule, codeRule, fieldRule, identifierRule, rowRule, fieldRises, deeperRule, framesRule, carrierRule, structureRule}
+use Rattle.book.specs.declared.every.Each.{Each}
+use Rattle.book.specs.declared.every.Each.the-variants.{Line, Code, Field, Identifier, Row, FieldRises, Deeper}
+
+abbrev pub ruleFor : Each → Guide → ℕ → ℕ → Rule
+ruleFor Line g subject number = lineRule g number
+ruleFor Code g subject number = codeRule g number
+ruleFor Field g subject number = fieldRule g number
+ruleFor Identifier g subject number = identifierRule g number
+ruleFor Row g subject number = rowRule g number
+ruleFor FieldRises g subject number = fieldRises g number
+ruleFor Deeper g subject number = deeperRule g subject number
+
+unfoldable pub headerRule : List ℕ → Rule
+headerRule bs = editionRule bs and blocksRule bs and lengthRule bs and countsRule bs
+
+-- each record by itself
+abbrev pub linesRule : Guide → Rule
+linesRule g = every 1 (g .lines) (lineRule g)
+
+abbrev pub codesRule : Guide → Rule
+codesRule g = every 0 (g .codes) (codeRule g)
+
+abbrev pub fieldsRule : Guide → Rule
+fieldsRule g = every 0 (g .fields) (fieldRule g)
+
+abbrev pub identifiersRule : Guide → Rule
+identifiersRule g = every 0 (g .identifiers) (identifierRule g)
+
+abbrev pub rowsRule : Guide → Rule
+rowsRule g = every 0 (g .identifiers * g .lines) (rowRule g)
+
+unfoldable pub recordsRule : Guide → Rule
+recordsRule g = linesRule g and codesRule g and fieldsRule g and identifiersRule g and rowsRule g
+
+-- the lines among each other
+abbrev pub structuresRule : Guide → Rule
+structuresRule g = every 1 (g .lines) (structureRule g)
+
+unfoldable pub framedRule : Guide → Rule
+framedRule g = framesRule g and carrierRule g and structuresRule g
+
+-- what a good header leaves: counts that a book of 65,535 bytes has room for
+pub record Small (g : Guide) : Type 0 where
+  pub some-lines : 0 < g .lines
+  pub rows : g .identifiers * g .lines < 2 ^ 16
