@@ -3,3 +3,7 @@ pub mod Rules
 pub mod Checking
 pub mod Bytes
 pub mod Inhabited
+pub mod Clauses
+pub mod OneHome
+pub mod Parents
+pub mod OneOutcome

@@ -4,3 +4,5 @@ pub mod Guide
 pub mod Rule
 pub mod GoodBook
 pub mod Each
+pub mod Structure
+pub mod View

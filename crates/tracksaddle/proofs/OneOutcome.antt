@@ -1,9 +1,14 @@
--- Law one-outcome: two outcomes of an exported call that meet its promise leave the same table.
+-- Law one-outcome: two outcomes of an exported call that meet its promise are the same answer, and leave the same table.
 -- The promises are the contracts of src/ themselves, as the check reads them (`Reads`), and no copies.
 use mathlib.Core.Path.{_≡_, sym, _∙_}
+use Rattle.book.proofs.OneOutcome.{one-judged}
+use Rattle.tracksaddle.proofs.tracksaddle_check_book.Reads as check-book
 use Rattle.tracksaddle.proofs.tracksaddle_find_component.Reads as find-component
 
 -- of a call's arguments at exit, the lent table `part` is the fifth
 pub one-find-component : (κs : _) (a : _) (r q : _) (x y : _) → find-component.Post κs a r x → find-component.Post κs a q y
     → x .1 .1 .1 .1 .0 .now ≡ y .1 .1 .1 .1 .0 .now
 one-find-component κs a r q x y m n = m ∙ sym n
+
+pub one-check-book : (κs : _) (a : _) (r q : _) (x y : _) → check-book.Post κs a r x → check-book.Post κs a q y → r ≡ q
+one-check-book κs a r q x y m n = one-judged _ r q m n
