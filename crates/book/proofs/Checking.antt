@@ -7,7 +7,7 @@ use mathlib.Core.Bool.{true, false}
 use lib.ListN.{getD}
 use Rattle.book.specs.Guide.{guideOf}
 use Rattle.book.specs.Rule.{Holds, run}
-use Rattle.book.specs.GoodBook.{GoodBook, Judged, lengthRule, countsRule}
+use Rattle.book.specs.GoodBook.{GoodBook, Judged, lengthRule, countsRule, lineRule, identifierRule, rowRule, structureRule}
 use Rattle.book.specs.Each.{Small, headerRule, recordsRule, framedRule}
 use Rattle.book.proofs.Rules.{run-holds, run-fails}
 
@@ -20,29 +20,66 @@ module _ (bs : List ℕ) where
   good-header g = (g .edition, (g .blocks, (g .long, g .counts)))
 
   good-records : GoodBook bs → Holds (recordsRule (guideOf bs))
-  unfolding recordsRule
-  good-records g = (g .line, (g .code, (g .field, (g .identifier, g .row))))
+  unfolding recordsRule lineRule identifierRule rowRule
+  good-records g = (
+    λ l a b. (
+      (g .kinds l a b, (g .depths l a b, g .tags l a b)),
+      (
+        (g .requireds l a b, (g .selectors l a b, g .code-ranges l a b)),
+        (g .maxima l a b, (g .field-ranges l a b, g .plain-groups l a b)),
+      ),
+    ),
+    (
+      g .codes,
+      (g .fields, (λ p a b. (g .identifiers p a b, g .rising-identifiers p a b), λ r a b. (g .rows r a b, (g .row-ends r a b, g .required-rows r a b)))),
+    ),
+  )
 
   good-frame : GoodBook bs → Holds (framedRule (guideOf bs))
-  unfolding framedRule
-  good-frame g = (g .frames, (g .carrier, g .structure))
+  unfolding framedRule structureRule
+  good-frame g = (
+    g .frames,
+    (
+      g .carrier,
+      λ l a b. (
+        (g .rising-fields l a b, (g .triggers l a b, g .falls l a b)),
+        (g .only-frames l a b, (g .one-home l a b, g .carrier-groups l a b)),
+      ),
+    ),
+  )
 
   good-book : Holds (headerRule bs) → Holds (recordsRule (guideOf bs)) → Holds (framedRule (guideOf bs)) → GoodBook bs
-  unfolding headerRule recordsRule framedRule
+  unfolding headerRule recordsRule framedRule lineRule identifierRule rowRule structureRule
   good-book h r f =
       record {
         edition = h .0;
         blocks = h .1 .0;
         long = h .1 .1 .0;
         counts = h .1 .1 .1;
-        line = r .0;
-        code = r .1 .0;
-        field = r .1 .1 .0;
-        identifier = r .1 .1 .1 .0;
-        row = r .1 .1 .1 .1;
+        kinds = λ l a b. r .0 l a b .0 .0;
+        depths = λ l a b. r .0 l a b .0 .1 .0;
+        tags = λ l a b. r .0 l a b .0 .1 .1;
+        requireds = λ l a b. r .0 l a b .1 .0 .0;
+        selectors = λ l a b. r .0 l a b .1 .0 .1 .0;
+        code-ranges = λ l a b. r .0 l a b .1 .0 .1 .1;
+        maxima = λ l a b. r .0 l a b .1 .1 .0;
+        field-ranges = λ l a b. r .0 l a b .1 .1 .1 .0;
+        plain-groups = λ l a b. r .0 l a b .1 .1 .1 .1;
+        codes = r .1 .0;
+        fields = r .1 .1 .0;
+        rising-fields = λ l a b. f .1 .1 l a b .0 .0;
+        identifiers = λ p a b. r .1 .1 .1 .0 p a b .0;
+        rising-identifiers = λ p a b. r .1 .1 .1 .0 p a b .1;
+        rows = λ k a b. r .1 .1 .1 .1 k a b .0;
+        row-ends = λ k a b. r .1 .1 .1 .1 k a b .1 .0;
+        triggers = λ l a b. f .1 .1 l a b .0 .1 .0;
+        falls = λ l a b. f .1 .1 l a b .0 .1 .1;
         frames = f .0;
+        only-frames = λ l a b. f .1 .1 l a b .1 .0;
+        one-home = λ l a b. f .1 .1 l a b .1 .1 .0;
         carrier = f .1 .0;
-        structure = f .1 .1;
+        carrier-groups = λ l a b. f .1 .1 l a b .1 .1 .1;
+        required-rows = λ k a b. r .1 .1 .1 .1 k a b .1 .1;
       }
 
   -- a book whose rules all run is good

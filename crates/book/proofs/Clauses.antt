@@ -6,97 +6,84 @@ use mathlib.Core.List.{List}
 use mathlib.Core.Logic.{_⊎_}
 use Rattle.book.specs.Rule.{Holds}
 use Rattle.book.specs.Guide.{guideOf}
-use Rattle.book.specs.GoodBook.{GoodBook, lineRule, kindRule, depthRule, tagRule, requiredRule, selectorRule, codeRangeRule, maximumRule, fieldRangeRule, groupRule, rangeRule, codeRule, fieldRule, identifierRule, identifierFormRule, identifierRises, rowRule, modeRule, rowEndRule, requiredRowRule, structureRule, risingFieldsRule, fieldRises, fieldPlace, triggerRule, fallRule, onlyFramesRule, oneHomeRule, pairRule, carrierGroupRule, carrierRule, framesRule, frameRule, countsRule, UNH, UNT}
+use Rattle.book.specs.GoodBook.{GoodBook, kindRule, depthRule, tagRule, requiredRule, selectorRule, codeRangeRule, maximumRule, fieldRangeRule, groupRule, rangeRule, codeRule, fieldRule, identifierFormRule, identifierRises, modeRule, rowEndRule, requiredRowRule, risingFieldsRule, fieldRises, fieldPlace, triggerRule, fallRule, onlyFramesRule, oneHomeRule, pairRule, carrierGroupRule, carrierRule, framesRule, frameRule, countsRule, UNH, UNT}
 
 module _ (bs : List ℕ) (good : GoodBook bs) where
   -- ---- one line by itself
 
   module _ (l : ℕ) (from : 1 ≤ l) (to : l ≤ guideOf bs .lines) where
-    rules : Holds (lineRule (guideOf bs) l)
-    rules = good .line l from (omega arith)
-
     pub line-kind : (guideOf bs .kind l ≡ 1) ⊎ (guideOf bs .kind l ≡ 2)
-    unfolding lineRule kindRule
-    line-kind = rules .0 .0
+    unfolding kindRule
+    line-kind = good .kinds l from (omega arith)
 
     pub line-depth : guideOf bs .depth l ≤ 7
-    unfolding lineRule depthRule
-    line-depth = rules .0 .1 .0
+    unfolding depthRule
+    line-depth = good .depths l from (omega arith)
 
     pub line-tag : Holds (tagRule (guideOf bs) l)
-    unfolding lineRule
-    line-tag = rules .0 .1 .1
+    line-tag = good .tags l from (omega arith)
 
     pub line-required : guideOf bs .required l ≤ 1
-    unfolding lineRule requiredRule
-    line-required = rules .1 .0 .0
+    unfolding requiredRule
+    line-required = good .requireds l from (omega arith)
 
     pub line-selector : Holds (selectorRule (guideOf bs) l)
-    unfolding lineRule
-    line-selector = rules .1 .0 .1 .0
+    line-selector = good .selectors l from (omega arith)
 
     pub line-codes : guideOf bs .firstCode l + guideOf bs .codeCount l ≤ guideOf bs .codes
-    unfolding lineRule codeRangeRule rangeRule
-    line-codes = rules .1 .0 .1 .1 .0
+    unfolding codeRangeRule rangeRule
+    line-codes = good .code-ranges l from (omega arith) .0
 
     pub line-maximum : (1 ≤ guideOf bs .maximum l) × (guideOf bs .maximum l ≤ 999999)
-    unfolding lineRule maximumRule
-    line-maximum = rules .1 .1 .0
+    unfolding maximumRule
+    line-maximum = good .maxima l from (omega arith)
 
     pub line-fields : guideOf bs .firstField l + guideOf bs .fieldCount l ≤ guideOf bs .fields
-    unfolding lineRule fieldRangeRule rangeRule
-    line-fields = rules .1 .1 .1 .0 .0
+    unfolding fieldRangeRule rangeRule
+    line-fields = good .field-ranges l from (omega arith) .0
 
     pub group-is-plain : guideOf bs .kind l ≡ 2 → (guideOf bs .codeCount l ≡ 0) × (guideOf bs .fieldCount l ≡ 0)
-    unfolding lineRule groupRule
-    group-is-plain = rules .1 .1 .1 .1
+    unfolding groupRule
+    group-is-plain = good .plain-groups l from (omega arith)
 
     -- ---- among the others
 
-    among : Holds (structureRule (guideOf bs) l)
-    among = good .structure l from (omega arith)
-
     pub fields-rise : (f : ℕ) → guideOf bs .firstField l ≤ f → f < guideOf bs .firstField l + (guideOf bs .fieldCount l - 1)
         → fieldPlace (guideOf bs) f + 1 ≤ fieldPlace (guideOf bs) (f + 1)
-    unfolding structureRule risingFieldsRule fieldRises
-    fields-rise = among .0 .0
+    unfolding risingFieldsRule fieldRises
+    fields-rise = good .rising-fields l from (omega arith)
 
     pub group-trigger : Holds (triggerRule (guideOf bs) l)
-    unfolding structureRule
-    group-trigger = among .0 .1 .0
+    group-trigger = good .triggers l from (omega arith)
 
     pub line-falls : Holds (fallRule (guideOf bs) l)
-    unfolding structureRule
-    line-falls = among .0 .1 .1
+    line-falls = good .falls l from (omega arith)
 
     pub only-frames : (guideOf bs .tag l ≡ UNH (guideOf bs) → l ≡ 1) × (guideOf bs .tag l ≡ UNT (guideOf bs) → l ≡ guideOf bs .lines)
-    unfolding structureRule onlyFramesRule
-    only-frames = among .1 .0
+    unfolding onlyFramesRule
+    only-frames = good .only-frames l from (omega arith)
 
     pub one-home : (m : ℕ) → l + 1 ≤ m → m ≤ guideOf bs .lines → Holds (pairRule (guideOf bs) l m)
-    unfolding structureRule oneHomeRule
-    one-home m a b = among .1 .1 .0 m a (omega arith)
+    unfolding oneHomeRule
+    one-home m a b = good .one-home l from (omega arith) m a (omega arith)
 
     pub carrier-group : Holds (carrierGroupRule (guideOf bs) l)
-    unfolding structureRule
-    carrier-group = among .1 .1 .1
+    carrier-group = good .carrier-groups l from (omega arith)
 
   -- ---- the other records
 
   pub code-rule : (c : ℕ) → c < guideOf bs .codes → Holds (codeRule (guideOf bs) c)
-  code-rule c h = good .code c (omega arith) (omega arith)
+  code-rule c h = good .codes c (omega arith) (omega arith)
 
   pub field-rule : (f : ℕ) → f < guideOf bs .fields → Holds (fieldRule (guideOf bs) f)
-  field-rule f h = good .field f (omega arith) (omega arith)
+  field-rule f h = good .fields f (omega arith) (omega arith)
 
   pub identifier-rule : (p : ℕ) → p < guideOf bs .identifiers → Holds (identifierFormRule (guideOf bs) p) × Holds (identifierRises (guideOf bs) p)
-  unfolding identifierRule
-  identifier-rule p h = good .identifier p (omega arith) (omega arith)
+  identifier-rule p h = (good .identifiers p (omega arith) (omega arith), good .rising-identifiers p (omega arith) (omega arith))
 
   pub row-rule : (r : ℕ) → r < guideOf bs .identifiers * guideOf bs .lines
       → Holds (modeRule (guideOf bs) r) × Holds (rowEndRule (guideOf bs) r) × Holds (requiredRowRule (guideOf bs) r)
-  unfolding rowRule
-  row-rule r h = let x = good .row r (omega arith) (omega arith) in (x .0, x .1 .0, x .1 .1)
+  row-rule r h = (good .rows r (omega arith) (omega arith), good .row-ends r (omega arith) (omega arith), good .required-rows r (omega arith) (omega arith))
 
   -- ---- the whole
 
