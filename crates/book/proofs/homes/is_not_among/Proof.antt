@@ -1,6 +1,10 @@
 -- `homes::is_not_among` meets its contract: the tests are joined as the rule joins its parts.
 use borrow.Author.Needs.{needs}
-use Rattle.book.specs.GoodBook.{notAmongRule}
+use Prim.Native.Nat.{ℕ}
+use mathlib.Core.Path.{ap₂, _∙_}
+use Rattle.book.specs.Rule.{run, every}
+use Rattle.book.specs.Guide.{guideOf}
+use Rattle.book.specs.GoodBook.{notAmongRule, otherThanRule}
 use Rattle.book.proofs.homes.is_not_among.Statement.{statement}
 use Rattle.book.proofs.homes.is_not_among.Tie as tie
 
@@ -21,7 +25,11 @@ are-other-than-requires c κs = search needs
 
 returns : tie.Need-returns
 unfolding notAmongRule
-returns c = cc
+returns c =
+    let g = guideOf (c .before .before .before .before .before .before .args .book .now) in
+    c .are-other-than .ensures
+    ∙ ap₂ (λ (low high : ℕ). run (every (c .before .before .first-code .result) (c .before .code-count .result) (otherThanRule g low high))) (c .before .before .before .before .code-low .ensures .0) (c .before .before .before .code-high .ensures .0)
+    ∙ ap₂ (λ (first count : ℕ). run (every first count (otherThanRule g (g .codeLow (c .before .before .before .before .before .before .args .code)) (g .codeHigh (c .before .before .before .before .before .before .args .code))))) (c .before .before .first-code .ensures .0) (c .before .code-count .ensures .0)
 
 pub is-not-among-spec : {M : Type 1} → statement M
 is-not-among-spec =
