@@ -11,6 +11,7 @@ pub mod Rendering
 pub mod OneReading
 pub mod Cursors
 pub mod Spans
+pub mod Tags
 pub mod Values
 pub mod Examples
 pub mod OneOutcome

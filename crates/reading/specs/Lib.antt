@@ -5,3 +5,4 @@ pub mod WellFormed
 pub mod Component
 pub mod Machine
 pub mod Part
+pub mod Tag

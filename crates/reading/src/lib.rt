@@ -1,6 +1,6 @@
 // The reading of bytes: what stands at the bottom and knows nothing of guide books.
 // 01, "Bytes of a message", has the rules; to be read in this order: service, bytes, machine, progress, scan, span, cursor,
-// lookup, compare.
+// lookup, compare, tag.
 pub mod bytes;
 pub mod compare;
 pub mod cursor;
@@ -10,3 +10,4 @@ pub mod progress;
 pub mod scan;
 pub mod service;
 pub mod span;
+pub mod tag;

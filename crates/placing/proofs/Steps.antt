@@ -1,0 +1,265 @@
+-- The steps of the functions over a walk, one law for each way through.
+use Prim.Native.Nat.{ℕ, zero, suc, _+_, _-_, _≤_, _<_, _^_, pred}
+use native.Mathlib.Omega.{arith}
+use mathlib.Core.Path.{_≡_, refl, sym, ap, ap₂, _∙_, subst}
+use mathlib.Core.List.{List, [], _∷_, _++_, append-assoc, append-nil}
+use mathlib.Core.Bool.{Bool, true, false, cond, not, _&&_, and-false}
+use lib.Dec.{eqb, ltb, leb}
+use lib.ListN.{length, getD, take, drop, set, length-take, drop-of-length-le}
+use lib.Seq.{drop-cons, getD-take, take-take, take-suc-set, set-out}
+use borrow.Author.Tests.{lt-ltb, le-ltb, eq-eqb, ne-eqb, le-leb, lt-leb, ltb-true, eqb-true, eqb-false}
+use Rattle.placing.proofs.Scans.{left, right}
+use Rattle.placing.specs.declared.walk.Level.{Level}
+use Rattle.placing.specs.declared.walk.Walk.{Walk}
+use Rattle.book.specs.Guide.{guideOf, lineAt}
+use Rattle.placing.specs.Plan.{Plan, planIn}
+use Rattle.placing.specs.Walking.{Ready, StandsFor, admits, advanced, canClose, canCloseAll, canMove, entered, isAlive, isClear, isPassed, isPlaceable, isTrigger, level, openLines, raised, stacked, start, target, walked}
+use Rattle.placing.specs.Tree.{openedBy}
+
+plus-one : (x : ℕ) → x + 1 ≡ suc x
+plus-one x = omega arith
+
+stack-long : (w : Walk) → Ready w → length (openLines w) ≡ w .height
+stack-long w q = length-take (w .height) (w .levels) ∙ (let a = q .eight in let c = q .low in omega arith)
+
+stack-at : (w : Walk) (j : ℕ) (z : Level) → j < w .height → getD (openLines w) j z ≡ getD (w .levels) j z
+stack-at w j z i = getD-take (w .height) (w .levels) j z i
+
+pub raise-same : (v : Level) (t : ℕ) → v .line ≡ t → level t (v .count + 1) ≡ raised v t
+raise-same v t e = ap (level t) (plus-one (v .count)) ∙ sym (simp (eq-eqb (v .line) t e))
+
+pub raise-new : (v : Level) (t : ℕ) → (v .line ≡ t → ⊥) → level t 1 ≡ raised v t
+raise-new v t e = sym (simp (ne-eqb (v .line) t e))
+
+-- with_level
+pub level-stack : (w : Walk) (d : ℕ) (v : Level) → Ready w → d ≤ w .height → d < 8 → take (d + 1) (set (w .levels) d v) ≡ take d (openLines w) ++ (v ∷ [])
+level-stack w d v q i j =
+    ap (λ (x : ℕ). take x (set (w .levels) d v)) (plus-one d) ∙ take-suc-set (w .levels) d v (let e = q .eight in omega arith)
+    ∙ ap (λ (x : List Level). x ++ (v ∷ [])) (sym (take-take d (w .height) (w .levels) i))
+
+module _ (b : Plan) where
+  -- can_close
+  pub close-last : (d : ℕ) (v : Level) (lines : ℕ) → lines ≡ b .lines → lines ≤ v .line → true ≡ canClose b d v
+  unfolding isClear
+  close-last d v lines e h = let z : b .lines - v .line ≡ 0 = omega arith in sym (ap (isClear b d (suc (v .line))) z)
+
+  pub close-is : (d : ℕ) (v : Level) (r : Bool) → r ≡ isClear b d (v .line + 1) (suc (b .lines) - (v .line + 1)) → r ≡ canClose b d v
+  close-is d v r h = let z : suc (b .lines) - (v .line + 1) ≡ b .lines - v .line = omega arith in h ∙ ap₂ (isClear b d) (plus-one (v .line)) z
+
+  pub move-same : (v : Level) (t m : ℕ) → v .line ≡ t → m ≡ b .maximum t → ltb (v .count) m ≡ canMove b v t
+  move-same v t m e f = ap (ltb (v .count)) f ∙ sym (simp (eq-eqb (v .line) t e))
+
+  pub move-far : (v : Level) (t d : ℕ) (r : Bool) → (v .line ≡ t → ⊥) → v .line < t → d ≡ b .depth t → r ≡ isPassed b d (v .line + 1) (t - (v .line + 1)) → r ≡ canMove b v t
+  move-far v t d r n i e h =
+      h ∙ ap (λ (x : ℕ). isPassed b x (v .line + 1) (t - (v .line + 1))) e ∙ ap (λ (x : ℕ). isPassed b (b .depth t) x (t - x)) (plus-one (v .line))
+      ∙ sym (simp (ne-eqb (v .line) t n, lt-ltb (v .line) t i))
+
+  pub move-back : (v : Level) (t : ℕ) → (v .line ≡ t → ⊥) → t ≤ v .line → false ≡ canMove b v t
+  move-back v t n i = sym (simp (ne-eqb (v .line) t n, le-ltb (v .line) t i))
+
+  shut-cons : (d : ℕ) (v : Level) (vs : List Level) → canCloseAll b d (v ∷ vs) ≡ (isClear b d (suc (v .line)) (b .lines - v .line) && canCloseAll b (suc d) vs)
+  unfolding canCloseAll
+  shut-cons d v vs = refl
+
+  -- the loop of is_shut
+  pub shut-step : (w : Walk) (j : ℕ) (v : Level) (r : Bool) → Ready w → j < w .height → v ≡ getD (w .levels) j (level 0 0) → r ≡ isClear b j (suc (v .line)) (b .lines - v .line)
+      → canCloseAll b j (drop j (openLines w)) ≡ (r && canCloseAll b (suc j) (drop (suc j) (openLines w)))
+  shut-step w j v r q i e h =
+      ap (canCloseAll b j) (drop-cons (openLines w) j (level 0 0) (let l = stack-long w q in omega arith))
+      ∙ shut-cons j (getD (openLines w) j (level 0 0)) (drop (suc j) (openLines w))
+      ∙ ap (λ (x : Level). isClear b j (suc (x .line)) (b .lines - x .line) && canCloseAll b (suc j) (drop (suc j) (openLines w))) (stack-at w j (level 0 0) i ∙ sym e)
+      ∙ ap (λ (x : Bool). x && canCloseAll b (suc j) (drop (suc j) (openLines w))) (sym h)
+
+  pub shut-end : (w : Walk) (j : ℕ) → Ready w → w .height ≤ j → canCloseAll b j (drop j (openLines w)) ≡ true
+  unfolding canCloseAll
+  shut-end w j q i = ap (canCloseAll b j) (drop-of-length-le (openLines w) {i = j} (let l = stack-long w q in omega arith))
+
+  pub shut-on : (w : Walk) (j : ℕ) (v : Level) (r : Bool) → Ready w → j < w .height → v ≡ getD (w .levels) j (level 0 0) → r ≡ isClear b j (suc (v .line)) (b .lines - v .line)
+      → r ≡ true → canCloseAll b (j + 1) (drop (j + 1) (openLines w)) ≡ canCloseAll b j (drop j (openLines w))
+  shut-on w j v r q i e h y =
+      ap (λ (x : ℕ). canCloseAll b x (drop x (openLines w))) (plus-one j) ∙ ap (λ (x : Bool). x && canCloseAll b (suc j) (drop (suc j) (openLines w))) (sym y) ∙ sym (shut-step w j v r q i e h)
+
+  pub shut-stop : (w : Walk) (j : ℕ) (v : Level) (r : Bool) → Ready w → j < w .height → v ≡ getD (w .levels) j (level 0 0) → r ≡ isClear b j (suc (v .line)) (b .lines - v .line)
+      → r ≡ false → canCloseAll b j (drop j (openLines w)) ≡ false
+  shut-stop w j v r q i e h y = shut-step w j v r q i e h ∙ ap (λ (x : Bool). x && canCloseAll b (suc j) (drop (suc j) (openLines w))) y
+
+  -- can_place
+  module _ (w : Walk) (t d : ℕ) (q : Ready w) (e : d ≡ b .depth t) where
+    admits-is : admits b (openLines w) t ≡ (ltb d (length (openLines w)) && (canMove b (getD (openLines w) d (level 0 0)) t && canCloseAll b (suc d) (drop (suc d) (openLines w))))
+    unfolding admits
+    admits-is = ap (λ (x : ℕ). ltb x (length (openLines w)) && (canMove b (getD (openLines w) x (level 0 0)) t && canCloseAll b (suc x) (drop (suc x) (openLines w)))) (sym e)
+
+    pub admits-high : w .height ≤ d → false ≡ admits b (openLines w) t
+    admits-high i = sym (admits-is ∙ ap (λ (x : Bool). x && (canMove b (getD (openLines w) d (level 0 0)) t && canCloseAll b (suc d) (drop (suc d) (openLines w)))) (le-ltb d (length (openLines w)) (let l = stack-long w q in omega arith)))
+
+    admits-low : (v : Level) (m : Bool) → d < w .height → v ≡ getD (w .levels) d (level 0 0) → m ≡ canMove b v t → admits b (openLines w) t ≡ (m && canCloseAll b (suc d) (drop (suc d) (openLines w)))
+    admits-low v m i g h =
+        admits-is
+        ∙ ap (λ (x : Bool). x && (canMove b (getD (openLines w) d (level 0 0)) t && canCloseAll b (suc d) (drop (suc d) (openLines w)))) (lt-ltb d (length (openLines w)) (let l = stack-long w q in omega arith))
+        ∙ ap (λ (x : Level). canMove b x t && canCloseAll b (suc d) (drop (suc d) (openLines w))) (stack-at w d (level 0 0) i ∙ sym g)
+        ∙ ap (λ (x : Bool). x && canCloseAll b (suc d) (drop (suc d) (openLines w))) (sym h)
+
+    pub admits-still : (v : Level) (m : Bool) → d < w .height → v ≡ getD (w .levels) d (level 0 0) → m ≡ canMove b v t → m ≡ false → false ≡ admits b (openLines w) t
+    admits-still v m i g h y = sym (admits-low v m i g h ∙ ap (λ (x : Bool). x && canCloseAll b (suc d) (drop (suc d) (openLines w))) y)
+
+    pub admits-shut : (v : Level) (m r : Bool) → d < w .height → v ≡ getD (w .levels) d (level 0 0) → m ≡ canMove b v t → m ≡ true → r ≡ canCloseAll b (d + 1) (drop (d + 1) (openLines w)) → r ≡ admits b (openLines w) t
+    admits-shut v m r i g h y k =
+        k ∙ ap (λ (x : ℕ). canCloseAll b x (drop x (openLines w))) (plus-one d) ∙ sym (admits-low v m i g h ∙ ap (λ (x : Bool). x && canCloseAll b (suc d) (drop (suc d) (openLines w))) y)
+
+  -- is_trigger
+  pub trigger-low : (l : ℕ) → l < 2 → false ≡ isTrigger b l
+  trigger-low zero h = refl
+  trigger-low (suc zero) h = refl
+  trigger-low (suc (suc l)) h = absurd (omega arith)
+
+  pub trigger-at : (l : ℕ) (r : Bool) → 2 ≤ l → r ≡ b .group (l - 1) → r ≡ isTrigger b l
+  trigger-at zero r h e = absurd (omega arith)
+  trigger-at (suc zero) r h e = absurd (omega arith)
+  trigger-at (suc (suc l)) r h e = e ∙ ap (b .group) (one-less l)
+    where
+      one-less : (l : ℕ) → suc (suc l) - 1 ≡ suc l
+      one-less l = omega arith
+
+  -- target_of
+  pub target-low : (l : ℕ) → l < 2 → l ≡ target b l
+  unfolding target
+  target-low l h = sym (ap (λ (x : Bool). cond x (pred l) l) (sym (trigger-low l h)))
+
+  pub target-group : (l : ℕ) (g : Bool) → 2 ≤ l → g ≡ b .group (l - 1) → g ≡ true → l - 1 ≡ target b l
+  unfolding target
+  target-group l g h e y = let z : l - 1 ≡ pred l = omega arith in z ∙ sym (simp (sym (trigger-at l g h e) ∙ y))
+
+  pub target-self : (l : ℕ) (g : Bool) → 2 ≤ l → g ≡ b .group (l - 1) → g ≡ false → l ≡ target b l
+  unfolding target
+  target-self l g h e y = sym (simp (sym (trigger-at l g h e) ∙ y))
+
+  -- is_placeable
+  pub place-zero : (l : ℕ) → l ≡ 0 → false ≡ isPlaceable b l
+  unfolding isPlaceable
+  place-zero l e = sym (simp (le-ltb 0 l (omega arith)))
+
+  pub place-past : (l n : ℕ) → n ≡ b .lines → n < l → false ≡ isPlaceable b l
+  unfolding isPlaceable
+  place-past l n e h = sym (simp (lt-leb l (b .lines) (omega arith), and-false))
+
+  pub place-group : (l : ℕ) (g : Bool) → g ≡ b .group l → g ≡ true → false ≡ isPlaceable b l
+  unfolding isPlaceable
+  place-group l g e y = sym (simp (sym e ∙ y, and-false))
+
+  pub place-is : (l n d k : ℕ) (g o : Bool) → (l ≡ 0 → ⊥) → n ≡ b .lines → l ≤ n → g ≡ b .group l → g ≡ false → d ≡ b .depth (target b l) → o ≡ isTrigger b l → k ≡ cond o 7 8
+      → ltb d k ≡ isPlaceable b l
+  unfolding isPlaceable
+  place-is l n d k g o z e i eg y ed eo ek =
+      ap₂ ltb ed (ek ∙ ap (λ (x : Bool). cond x 7 8) eo) ∙ sym (simp (lt-ltb 0 l (omega arith), le-leb l (b .lines) (omega arith), sym eg ∙ y))
+
+  -- moved
+  module _ (w : Walk) (t d : ℕ) (q : Ready w) (e : d ≡ b .depth t) (f : admits b (openLines w) t ≡ true) where
+    pub admits-under : d < w .height
+    unfolding admits
+    admits-under = let h = ltb-true (b .depth t) (length (openLines w)) (left (ltb (b .depth t) (length (openLines w))) _ f) in let l = stack-long w q in omega arith
+
+    admits-moves : canMove b (getD (w .levels) d (level 0 0)) t ≡ true
+    admits-moves = left _ (canCloseAll b (suc d) (drop (suc d) (openLines w))) (sym (admits-low w t d q e (getD (w .levels) d (level 0 0)) (canMove b (getD (w .levels) d (level 0 0)) t) admits-under refl refl) ∙ f)
+
+    pub admits-room : getD (w .levels) d (level 0 0) .line ≡ t → getD (w .levels) d (level 0 0) .count < b .maximum t
+    admits-room k = ltb-true _ (b .maximum t) (move-same (getD (w .levels) d (level 0 0)) t (b .maximum t) k refl ∙ admits-moves)
+
+    pub stacked-is : (u : Level) (one : Walk) → u ≡ raised (getD (w .levels) d (level 0 0)) t → openLines one ≡ take d (openLines w) ++ (u ∷ []) → openLines one ≡ stacked (b .depth t) (openLines w) t
+    unfolding stacked
+    stacked-is u one h k =
+        k ∙ ap (λ (x : Level). take d (openLines w) ++ (x ∷ [])) (h ∙ ap (λ (x : Level). raised x t) (sym (stack-at w d (level 0 0) admits-under)))
+        ∙ ap (λ (x : ℕ). take x (openLines w) ++ (raised (getD (openLines w) x (level 0 0)) t ∷ [])) e
+
+    pub moved-one : (u : Level) (one : Walk) (l : ℕ) (o : Bool) → u ≡ raised (getD (w .levels) d (level 0 0)) t → openLines one ≡ take d (openLines w) ++ (u ∷ []) → o ≡ false
+        → openLines one ≡ stacked (b .depth t) (openLines w) t ++ entered o l
+    moved-one u one l o h k y = stacked-is u one h k ∙ sym (append-nil (stacked (b .depth t) (openLines w) t)) ∙ ap (λ (x : Bool). stacked (b .depth t) (openLines w) t ++ entered x l) (sym y)
+
+    pub moved-two : (u : Level) (one two : Walk) (l : ℕ) (o : Bool) → u ≡ raised (getD (w .levels) d (level 0 0)) t → openLines one ≡ take d (openLines w) ++ (u ∷ []) → Ready one → one .height ≡ d + 1
+        → openLines two ≡ take (d + 1) (openLines one) ++ (level l 1 ∷ []) → o ≡ true → openLines two ≡ stacked (b .depth t) (openLines w) t ++ entered o l
+    moved-two u one two l o h k r m n y =
+        n ∙ ap (λ (x : List Level). x ++ (level l 1 ∷ [])) (take-take (d + 1) (one .height) (one .levels) (omega arith) ∙ ap (λ (x : ℕ). take x (one .levels)) (sym m) ∙ stacked-is u one h k)
+        ∙ ap (λ (x : Bool). stacked (b .depth t) (openLines w) t ++ entered x l) (sym y)
+
+  -- advance
+  pub advance-yes : (vs us : List Level) (l t : ℕ) (p f o : Bool) → p ≡ isPlaceable b l → p ≡ true → t ≡ target b l → f ≡ admits b vs t → f ≡ true → o ≡ isTrigger b l
+      → us ≡ stacked (b .depth t) vs t ++ entered o l → us ≡ advanced b vs l
+  unfolding advanced
+  advance-yes vs us l t p f o ep yp et ef yf eo h =
+      h ∙ ap₂ (λ (x : ℕ) (y : Bool). stacked (b .depth x) vs x ++ entered y l) et eo ∙ sym (simp (sym ep ∙ yp, ap (admits b vs) (sym et) ∙ sym ef ∙ yf))
+
+  pub advance-off : (vs us : List Level) (l : ℕ) (p : Bool) → p ≡ isPlaceable b l → p ≡ false → us ≡ [] → us ≡ advanced b vs l
+  unfolding advanced
+  advance-off vs us l p ep yp h = h ∙ sym (simp (sym ep ∙ yp))
+
+  pub advance-no : (vs us : List Level) (l t : ℕ) (f : Bool) → t ≡ target b l → f ≡ admits b vs t → f ≡ false → us ≡ [] → us ≡ advanced b vs l
+  unfolding advanced
+  advance-no vs us l t f et ef yf h = h ∙ sym (simp (ap (admits b vs) (sym et) ∙ sym ef ∙ yf, and-false))
+
+  pub shallow-of : (l t : ℕ) (p o : Bool) → p ≡ isPlaceable b l → p ≡ true → t ≡ target b l → o ≡ isTrigger b l → b .depth t < cond o 7 8
+  unfolding isPlaceable
+  shallow-of l t p o ep yp et eo =
+      ltb-true (b .depth t) (cond o 7 8)
+      (ap₂ (λ (x : ℕ) (y : Bool). ltb (b .depth x) (cond y 7 8)) et eo
+      ∙ right (not (b .group l)) _ (right (leb l (b .lines)) _ (right (ltb 0 l) _ (sym ep ∙ yp))))
+
+  pub under-seven : (d t : ℕ) (o : Bool) → d ≡ b .depth t → b .depth t < cond o 7 8 → o ≡ true → d + 1 < 8
+  under-seven d t o e h y = let k : b .depth t < 7 = subst (λ (x : Bool). b .depth t < cond x 7 8) y h in omega arith
+
+  -- the trail
+  pub open-not : (trail : List ℕ) (h n : ℕ) (o : Bool) → o ≡ isTrigger b h → o ≡ false → trail ≡ openedBy b trail h n
+  unfolding openedBy
+  open-not trail h n o e y = sym (simp (sym e ∙ y))
+
+  pub open-here : (trail : List ℕ) (h n d : ℕ) (o : Bool) → o ≡ isTrigger b h → o ≡ true → d ≡ b .depth (target b h) → set trail (d + 1) n ≡ openedBy b trail h n
+  unfolding openedBy
+  open-here trail h n d o e y k = ap (λ (x : ℕ). set trail x n) (plus-one d ∙ ap suc k) ∙ sym (simp (sym e ∙ y))
+
+  pub open-too-deep : (trail : List ℕ) (h n d : ℕ) → length trail ≡ 8 → d ≡ b .depth (target b h) → 7 ≤ d → trail ≡ openedBy b trail h n
+  unfolding openedBy
+  open-too-deep trail h n d l k i = sym (ap (λ (x : List ℕ). cond (isTrigger b h) x trail) (set-out trail (suc (b .depth (target b h))) n (omega arith)) ∙ either (isTrigger b h))
+    where
+      either : (o : Bool) → cond o trail trail ≡ trail
+      either true = refl
+      either false = refl
+
+-- ---- what a walk stands for
+
+pub stands-first : (b : Plan) (w : Walk) → Ready w → openLines w ≡ start → StandsFor b [] w
+unfolding walked
+stands-first b w q e = record { ready = q; lines = e }
+
+pub stands-next : (b : Plan) (hs : List ℕ) (w r : Walk) (h : ℕ) → Ready r → openLines r ≡ advanced b (openLines w) h → StandsFor b hs w → StandsFor b (hs ++ (h ∷ [])) r
+unfolding walked
+stands-next b hs w r h q e i = record { ready = q; lines = e ∙ ap (λ (vs : List Level). advanced b vs h) (i .lines) ∙ sym (walked-last start hs) }
+  where
+    walked-last : (vs : List Level) (xs : List ℕ) → walked b vs (xs ++ (h ∷ [])) ≡ advanced b (walked b vs xs) h
+    walked-last vs [] = refl
+    walked-last vs (x ∷ xs) = walked-last (advanced b vs x) xs
+
+pub alive-high : (w : Walk) → Ready w → (w .height ≡ 0 → ⊥) → isAlive (openLines w) ≡ true
+alive-high w q n = go (openLines w) (stack-long w q)
+  where
+    go : (vs : List Level) → length vs ≡ w .height → isAlive vs ≡ true
+    go [] e = absurd (n (sym e))
+    go (v ∷ vs) e = refl
+
+pub alive-none : (w : Walk) → Ready w → w .height ≡ 0 → isAlive (openLines w) ≡ false
+alive-none w q n = go (openLines w) (stack-long w q)
+  where
+    go : (vs : List Level) → length vs ≡ w .height → isAlive vs ≡ false
+    go [] e = refl
+    go (v ∷ vs) e = absurd (let z = n in omega arith)
+
+pub alive-is : (w : Walk) → Ready w → not (eqb (w .height) 0) ≡ isAlive (openLines w)
+alive-is w q = go (eqb (w .height) 0) refl
+  where
+    go : (t : Bool) → eqb (w .height) 0 ≡ t → not t ≡ isAlive (openLines w)
+    go true e = sym (alive-none w q (eqb-true (w .height) 0 e))
+    go false e = sym (alive-high w q (eqb-false (w .height) 0 e))
+
+-- a maximum is a number of four bytes
+pub maximum-fits : (bs : List ℕ) → ((k : ℕ) → getD bs k 0 < 256) → (l : ℕ) → planIn bs .maximum l < 2 ^ 32
+unfolding guideOf
+maximum-fits bs h l =
+    let at = lineAt bs l + 12 in
+    omega (arith, h at, h (at + 1), h (at + 2), h (at + 2 + 1))

@@ -1,0 +1,129 @@
+// The two passes over a message. What refuses a message touches no table and nothing could be restored, so homes are found in a
+// test pass and again in the pass that writes.
+ghost use mathlib.Core.Path.{_≡_};
+ghost use lib.ListN.{set};
+ghost use Rattle.placing.specs.Plan.{planIn};
+ghost use Rattle.placing.specs.Passes.{homesFrom, firstStop, outcomeOf, tested, entry, startsTable, homesTable, parentsTable};
+use crate::home;
+use crate::tree;
+use crate::tree::Trail;
+use crate::walk;
+use crate::walk::Walk;
+use reading::cursor::Cursor;
+use reading::cursor::Found;
+use reading::service::Service;
+
+// What the test pass finds: the homes begin an allowed sequence; the first segment without a home; or the smallest k whose first
+// k homes begin no allowed sequence.
+pub enum Placing {
+    Begins,
+    NoHome(u32),
+    Stops(u32),
+}
+
+// Where the walk was refused first, 0 if it was not: it has just come to its k-th home.
+fn first_stop(stop: u32, alive: bool, k: u32) -> u32
+    ensures { λ r. ⌜ r ≡ firstStop stop alive k ⌝ }
+{
+    if stop != 0 {
+        return stop;
+    }
+    if alive {
+        return stop;
+    }
+    k
+}
+
+fn outcome_of(stop: u32) -> Placing
+    ensures { λ r. ⌜ r ≡ outcomeOf stop ⌝ }
+{
+    if stop == 0 {
+        return Placing::Begins;
+    }
+    Placing::Stops(stop)
+}
+
+// Can the message's first so many segments be placed? A segment without a home is looked for to the end before a stop is
+// answered.
+pub fn test_placing(service: Service, message: &[u8], segments: u32, book: &[u8]) -> Placing
+    ensures { λ r. ⌜ r ≡ tested (planIn (now (book .entry))) (homesFrom service (now (message .entry)) (now (book .entry)) segments 0) ⌝ }
+{
+    let mut cursor = Cursor::first();
+    let mut walk = Walk::begin();
+    let mut stop: u32 = 0;
+    let mut place: u32 = 0;
+    while place < segments {
+        let at = cursor.at;
+        match cursor.next_segment(service, message) {
+            Found::Segment(_, next) => {
+                let home = home::find_home(service, message, at, book);
+                place += 1;
+                if home == 0 {
+                    return Placing::NoHome(place);
+                }
+                walk = walk::advance(book, walk, home);
+                stop = first_stop(stop, walk.is_alive(), place);
+                cursor = next;
+            }
+            Found::Nothing => {
+                return outcome_of(stop);
+            }
+        }
+    }
+    outcome_of(stop)
+}
+
+// One number into a lent table, if it fits there.
+fn put(table: &mut [u32], at: u32, number: u32)
+    ensures { λ _. ⌜ now (table .exit) ≡ set (now (table .entry)) at number ⌝ }
+{
+    let at = at as usize;
+    if at < table.len() {
+        table[at] = number;
+    }
+}
+
+// An offset as a table holds it.
+fn entry_of(offset: usize) -> u32
+    ensures { λ r. ⌜ r ≡ entry offset ⌝ }
+{
+    (offset % 0x1_0000_0000) as u32
+}
+
+// Writes the tables for the message's first so many segments, as many as there are and as fit: where each one starts, its home,
+// and the trigger of the instance that holds it. Nothing else there changes.
+pub fn write_tree(
+    service: Service,
+    message: &[u8],
+    segments: u32,
+    book: &[u8],
+    starts: &mut [u32],
+    homes: &mut [u32],
+    parents: &mut [u32],
+)
+    ensures { λ _. ⌜ (now (starts .exit) ≡ startsTable service (now (message .entry)) segments (now (starts .entry)))
+        × (now (homes .exit) ≡ homesTable service (now (message .entry)) (now (book .entry)) segments (now (homes .entry)))
+        × (now (parents .exit) ≡ parentsTable service (now (message .entry)) (now (book .entry)) segments (now (parents .entry))) ⌝ }
+{
+    let mut cursor = Cursor::first();
+    let mut trail = Trail::begin();
+    let mut place: u32 = 0;
+    let mut last = segments;
+    while place < last {
+        let at = cursor.at;
+        match cursor.next_segment(service, message) {
+            Found::Segment(_, next) => {
+                let home = home::find_home(service, message, at, book);
+                put(starts, place, entry_of(at));
+                put(homes, place, home);
+                put(parents, place, tree::parent_of(book, trail, home));
+                place += 1;
+                trail = tree::open_instance(book, trail, home, place);
+                cursor = next;
+            }
+            Found::Nothing => {
+                last = place;
+            }
+        }
+    }
+}

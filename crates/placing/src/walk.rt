@@ -1,0 +1,275 @@
+// The walk through the lines of a guide book, home by home.
+ghost use mathlib.Core.Path.{_≡_};
+ghost use mathlib.Core.List.{List, _∷_, [], _++_};
+ghost use mathlib.Core.Bool.{true, cond};
+ghost use Prim.Native.Nat.{ℕ, suc, _+_, _-_, _≤_, _<_, _^_};
+ghost use lib.ListN.{take, drop};
+ghost use Rattle.placing.specs.Plan.{Plan, planIn};
+ghost use Rattle.placing.specs.Walking.{isTrigger, target, isPlaceable, isWanted, isClear, isPassed, canClose, canCloseAll, canMove, admits, raised, stacked, entered, openLines, isAlive, Ready, StandsFor};
+use book::layout;
+
+// An open line and how often it has come in its parent's instance.
+pub struct Level {
+    pub line: u32,
+    pub count: u32,
+}
+
+// The open lines, outermost first: `height` of them; none when the walk has been refused.
+pub struct Walk {
+    pub levels: [Level; 8],
+    pub height: usize,
+}
+
+fn is_group(book: &[u8], line: u32) -> bool
+    ensures { λ r. ⌜ r ≡ planIn (now (book .entry)) .group line ⌝ }
+{
+    layout::kind(book, line) == 2
+}
+
+fn depth_of(book: &[u8], line: u32) -> usize
+    ensures { λ r. ⌜ (r ≡ planIn (now (book .entry)) .depth line) × (r < 256) ⌝ }
+{
+    layout::depth(book, line) as usize
+}
+
+// ---- the line that a home opens or repeats
+
+pub fn is_trigger(book: &[u8], line: u32) -> bool
+    ensures { λ r. ⌜ r ≡ isTrigger (planIn (now (book .entry))) line ⌝ }
+{
+    if line < 2 {
+        return false;
+    }
+    is_group(book, line - 1)
+}
+
+// A trigger opens its group.
+pub fn target_of(book: &[u8], line: u32) -> u32
+    ensures { λ r. ⌜ (r ≡ target (planIn (now (book .entry))) line) × (r ≤ line) ⌝ }
+{
+    if line < 2 {
+        return line;
+    }
+    if is_group(book, line - 1) {
+        return line - 1;
+    }
+    line
+}
+
+// The depth of that line.
+pub fn target_depth(book: &[u8], line: u32) -> usize
+    ensures { λ r. ⌜ (r ≡ planIn (now (book .entry)) .depth (target (planIn (now (book .entry))) line)) × (r < 256) ⌝ }
+{
+    depth_of(book, target_of(book, line))
+}
+
+// How many depths a line's place may have: a trigger needs one more below it.
+fn depths_for(opens: bool) -> usize
+    ensures { λ r. ⌜ r ≡ cond opens 7 8 ⌝ }
+{
+    if opens {
+        return 7;
+    }
+    8
+}
+
+fn is_placeable(book: &[u8], line: u32) -> bool
+    ensures { λ r. ⌜ r ≡ isPlaceable (planIn (now (book .entry))) line ⌝ }
+{
+    if line == 0 {
+        return false;
+    }
+    if layout::lines(book) < line {
+        return false;
+    }
+    if is_group(book, line) {
+        return false;
+    }
+    target_depth(book, line) < depths_for(is_trigger(book, line))
+}
+
+// ---- leaving lines out
+
+fn is_wanted(book: &[u8], depth: usize, line: u32) -> bool
+    ensures { λ r. ⌜ r ≡ isWanted (planIn (now (book .entry))) depth line ⌝ }
+{
+    if depth_of(book, line) != depth {
+        return false;
+    }
+    layout::required(book, line) == 1
+}
+
+// Is no line required, from the first on to the end of the instance that has lines of this depth?
+fn is_clear(book: &[u8], depth: usize, first: u32) -> bool
+    ensures { λ r. ⌜ r ≡ isClear (planIn (now (book .entry))) depth first (suc (planIn (now (book .entry)) .lines) - first) ⌝ }
+{
+    let lines = layout::lines(book);
+    let mut line = first;
+    while line <= lines {
+        if depth_of(book, line) < depth {
+            return true;
+        }
+        if is_wanted(book, depth, line) {
+            return false;
+        }
+        line += 1;
+    }
+    true
+}
+
+// Do the lines from the first up to the end all belong to one instance with lines of this depth, none of those required?
+fn is_passed(book: &[u8], depth: usize, first: u32, end: u32) -> bool
+    ensures { λ r. ⌜ r ≡ isPassed (planIn (now (book .entry))) depth first (end - first) ⌝ }
+{
+    let mut line = first;
+    while line < end {
+        if depth_of(book, line) < depth {
+            return false;
+        }
+        if is_wanted(book, depth, line) {
+            return false;
+        }
+        line += 1;
+    }
+    true
+}
+
+// Can the instance whose last line, of this depth, is open be closed?
+fn can_close(book: &[u8], level: Level, depth: usize) -> bool
+    ensures { λ r. ⌜ r ≡ canClose (planIn (now (book .entry))) depth level ⌝ }
+{
+    let line = level.line;
+    if layout::lines(book) <= line {
+        return true;
+    }
+    is_clear(book, depth, line + 1)
+}
+
+// Can every open instance with lines of this depth and deeper be closed?
+fn can_close_all(book: &[u8], walk: Walk, depth: usize) -> bool
+    requires { ⌜ Ready walk × (depth ≤ 8) ⌝ }
+    ensures { λ r. ⌜ r ≡ canCloseAll (planIn (now (book .entry))) depth (drop depth (openLines walk)) ⌝ }
+{
+    let height = walk.height;
+    let mut at = depth;
+    while at < height {
+        let level = walk.levels[at];
+        if !can_close(book, level, at) {
+            return false;
+        }
+        at += 1;
+    }
+    true
+}
+
+// ---- one home more
+
+// May line `to` come after the open line of its depth: once more, or on?
+fn can_move(book: &[u8], level: Level, to: u32) -> bool
+    ensures { λ r. ⌜ r ≡ canMove (planIn (now (book .entry))) level to ⌝ }
+{
+    let line = level.line;
+    if line == to {
+        return level.count < layout::maximum(book, to);
+    }
+    if line < to {
+        return is_passed(book, depth_of(book, to), line + 1, to);
+    }
+    false
+}
+
+fn admits_line(book: &[u8], walk: Walk, to: u32) -> bool
+    requires { ⌜ Ready walk ⌝ }
+    ensures { λ r. ⌜ r ≡ admits (planIn (now (book .entry))) (openLines walk) to ⌝ }
+{
+    let depth = depth_of(book, to);
+    let height = walk.height;
+    if depth < height {
+        let level = walk.levels[depth];
+        if can_move(book, level, to) {
+            return can_close_all(book, walk, depth + 1);
+        }
+    }
+    false
+}
+
+// The open line where `to` has come once more.
+fn raise(level: Level, to: u32) -> Level
+    requires { ⌜ (level .line ≡ to → level .count + 1 < 2 ^ 32) ⌝ }
+    ensures { λ r. ⌜ r ≡ raised level to ⌝ }
+{
+    if level.line == to {
+        return Level {
+            line: to,
+            count: level.count + 1,
+        };
+    }
+    Level { line: to, count: 1 }
+}
+
+impl Walk {
+    // Before the first home: the message itself is open.
+    pub fn begin() -> Walk
+        ensures { λ r. ⌜ Ready r × ((b : Plan) → StandsFor b [] r) ⌝ }
+    {
+        let levels = [Level { line: 0, count: 1 }; 8];
+        Walk { levels, height: 1 }
+    }
+
+    // Has no home been refused?
+    pub fn is_alive(self) -> bool
+        requires { ⌜ Ready self ⌝ }
+        ensures { λ r. ⌜ r ≡ isAlive (openLines self) ⌝ }
+    {
+        self.height != 0
+    }
+
+    // With this line open at this depth and nothing below it.
+    fn with_level(self, depth: usize, level: Level) -> Walk
+        requires { ⌜ Ready self × (depth ≤ self .height) × (depth < 8) ⌝ }
+        ensures { λ r. ⌜ Ready r × (r .height ≡ depth + 1) × (openLines r ≡ take depth (openLines self) ++ (level ∷ [])) ⌝ }
+    {
+        let mut walk = self;
+        walk.levels[depth] = level;
+        walk.height = depth + 1;
+        walk
+    }
+
+    fn refused(self) -> Walk
+        requires { ⌜ Ready self ⌝ }
+        ensures { λ r. ⌜ Ready r × (openLines r ≡ []) ⌝ }
+    {
+        let mut walk = self;
+        walk.height = 0;
+        walk
+    }
+}
+
+// The walk where line `to`, which is admitted, has come once more; `opens` where home `line` is the trigger that opens it.
+fn move_to(book: &[u8], walk: Walk, to: u32, line: u32, opens: bool) -> Walk
+    requires { ⌜ Ready walk × (admits (planIn (now book)) (openLines walk) to ≡ true) × (planIn (now book) .depth to < cond opens 7 8) ⌝ }
+    ensures { λ r. ⌜ Ready r × (openLines r ≡ stacked (planIn (now (book .entry)) .depth to) (openLines walk) to ++ entered opens line) ⌝ }
+{
+    let depth = depth_of(book, to);
+    let level = walk.levels[depth];
+    let moved = walk.with_level(depth, raise(level, to));
+    if opens {
+        return moved.with_level(depth + 1, Level { line, count: 1 });
+    }
+    moved
+}
+
+// One home more: a walk that stands for some homes now stands for one more.
+pub fn advance(book: &[u8], walk: Walk, home: u32) -> Walk
+    requires { ⌜ Ready walk ⌝ }
+    ensures { λ r. ⌜ Ready r × ((hs : List ℕ) → StandsFor (planIn (now (book .entry))) hs walk → StandsFor (planIn (now (book .entry))) (hs ++ (home ∷ [])) r) ⌝ }
+{
+    if !is_placeable(book, home) {
+        return walk.refused();
+    }
+    let to = target_of(book, home);
+    if !admits_line(book, walk, to) {
+        return walk.refused();
+    }
+    move_to(book, walk, to, home, is_trigger(book, home))
+}
