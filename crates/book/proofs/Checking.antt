@@ -7,8 +7,8 @@ use mathlib.Core.Bool.{true, false}
 use lib.ListN.{getD}
 use Rattle.book.specs.Guide.{guideOf}
 use Rattle.book.specs.Rule.{Holds, run}
-use Rattle.book.specs.GoodBook.{GoodBook, Judged, lengthRule, countsRule, lineRule, identifierRule, rowRule, structureRule}
-use Rattle.book.specs.Each.{Small, headerRule, recordsRule, framedRule}
+use Rattle.book.specs.GoodBook.{GoodBook, Judged, lengthRule, countsRule, lineRule, codeRangeRule, rangeRule, identifierRule, rowRule, structureRule, oneHomeRule}
+use Rattle.book.specs.Each.{Small, Within, headerRule, recordsRule, homeRule, framedRule}
 use Rattle.book.proofs.Rules.{run-holds, run-fails}
 
 malformed : {bs : List ℕ} → (GoodBook bs → ⊥) → Judged bs 1
@@ -36,20 +36,20 @@ module _ (bs : List ℕ) where
   )
 
   good-frame : GoodBook bs → Holds (framedRule (guideOf bs))
-  unfolding framedRule structureRule
+  unfolding framedRule structureRule homeRule oneHomeRule
   good-frame g = (
     g .frames,
     (
       g .carrier,
-      λ l a b. (
-        (g .rising-fields l a b, (g .triggers l a b, g .falls l a b)),
-        (g .only-frames l a b, (g .one-home l a b, g .carrier-groups l a b)),
+      (
+        λ l a b. ((g .rising-fields l a b, (g .triggers l a b, g .falls l a b)), (g .only-frames l a b, g .carrier-groups l a b)),
+        λ m a b l p q. g .one-home l p (omega arith) m (omega arith) (omega arith),
       ),
     ),
   )
 
   good-book : Holds (headerRule bs) → Holds (recordsRule (guideOf bs)) → Holds (framedRule (guideOf bs)) → GoodBook bs
-  unfolding headerRule recordsRule framedRule lineRule identifierRule rowRule structureRule
+  unfolding headerRule recordsRule framedRule lineRule identifierRule rowRule structureRule homeRule oneHomeRule
   good-book h r f =
       record {
         edition = h .0;
@@ -67,18 +67,18 @@ module _ (bs : List ℕ) where
         plain-groups = λ l a b. r .0 l a b .1 .1 .1 .1;
         codes = r .1 .0;
         fields = r .1 .1 .0;
-        rising-fields = λ l a b. f .1 .1 l a b .0 .0;
+        rising-fields = λ l a b. f .1 .1 .0 l a b .0 .0;
         identifiers = λ p a b. r .1 .1 .1 .0 p a b .0;
         rising-identifiers = λ p a b. r .1 .1 .1 .0 p a b .1;
         rows = λ k a b. r .1 .1 .1 .1 k a b .0;
         row-ends = λ k a b. r .1 .1 .1 .1 k a b .1 .0;
-        triggers = λ l a b. f .1 .1 l a b .0 .1 .0;
-        falls = λ l a b. f .1 .1 l a b .0 .1 .1;
+        triggers = λ l a b. f .1 .1 .0 l a b .0 .1 .0;
+        falls = λ l a b. f .1 .1 .0 l a b .0 .1 .1;
         frames = f .0;
-        only-frames = λ l a b. f .1 .1 l a b .1 .0;
-        one-home = λ l a b. f .1 .1 l a b .1 .1 .0;
+        only-frames = λ l a b. f .1 .1 .0 l a b .1 .0;
+        one-home = λ l a b m p q. f .1 .1 .1 m (omega arith) (omega arith) l a (omega arith);
         carrier = f .1 .0;
-        carrier-groups = λ l a b. f .1 .1 l a b .1 .1 .1;
+        carrier-groups = λ l a b. f .1 .1 .0 l a b .1 .1;
         required-rows = λ k a b. r .1 .1 .1 .1 k a b .1 .1;
       }
 
@@ -94,7 +94,12 @@ module _ (bs : List ℕ) where
       let written = h .1 .1 .0 .0 in
       let total = h .1 .1 .0 .1 in
       let some = h .1 .1 .1 .1 .0 in
-      record { some-lines = omega arith; rows = omega arith }
+      record { some-lines = omega arith; rows = omega arith; codes = omega arith }
+
+  -- and lines whose codes stay inside their block
+  pub records-within : Small (guideOf bs) → run (recordsRule (guideOf bs)) ≡ true → Within (guideOf bs)
+  unfolding recordsRule lineRule codeRangeRule rangeRule
+  records-within small e = record { small = small; line-codes = λ l a b. run-holds (recordsRule (guideOf bs)) e .0 l a (omega arith) .1 .0 .1 .1 .0 }
 
   pub header-bad : run (headerRule bs) ≡ false → Judged bs 1
   header-bad e = malformed (λ g. run-fails (headerRule bs) e (good-header g))

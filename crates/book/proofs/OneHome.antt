@@ -21,27 +21,27 @@ six bs c =
     guideOf bs .codeByte c 0 ∷ guideOf bs .codeByte c 1 ∷ guideOf bs .codeByte c 2 ∷ guideOf bs .codeByte c 3 ∷ guideOf bs .codeByte c 4 ∷ guideOf bs .codeByte c 5 ∷ []
 
 module _ (bs : List ℕ) where
-  byte : (at x y : ℕ) → x ≡ y → byteAt bs x ≡ byteAt bs y
-  byte at x y e = ap (byteAt bs) e
+  byte : (x y : ℕ) → x ≡ y → byteAt bs x ≡ byteAt bs y
+  byte x y e = ap (byteAt bs) e
 
   -- the eight bytes as two numbers
   low-is : (c : ℕ) → guideOf bs .codeLow c ≡ guideOf bs .codeLength c + 256 * guideOf bs .codeByte c 0 + 65536 * (guideOf bs .codeByte c 1 + 256 * guideOf bs .codeByte c 2)
   unfolding guideOf
   low-is c =
       let at = codeAt bs c in
-      let a = byte at (at + 0 + 1) (at + (1 + 0)) (omega arith) in
-      let b = byte at (at + 0 + 2) (at + (1 + 1)) (omega arith) in
-      let d = byte at (at + 0 + 2 + 1) (at + (1 + 2)) (omega arith) in
+      let a = byte (at + 0 + 1) (at + (1 + 0)) (omega arith) in
+      let b = byte (at + 0 + 2) (at + (1 + 1)) (omega arith) in
+      let d = byte (at + 0 + 2 + 1) (at + (1 + 2)) (omega arith) in
       omega arith
 
   high-is : (c : ℕ) → guideOf bs .codeHigh c ≡ guideOf bs .codeByte c 3 + 256 * guideOf bs .codeByte c 4 + 65536 * (guideOf bs .codeByte c 5 + 256 * guideOf bs .codeEnd c)
   unfolding guideOf
   high-is c =
       let at = codeAt bs c in
-      let a = byte at (at + 4) (at + (1 + 3)) (omega arith) in
-      let b = byte at (at + 4 + 1) (at + (1 + 4)) (omega arith) in
-      let d = byte at (at + 4 + 2) (at + (1 + 5)) (omega arith) in
-      let e = byte at (at + 4 + 2 + 1) (at + 7) (omega arith) in
+      let a = byte (at + 4) (at + (1 + 3)) (omega arith) in
+      let b = byte (at + 4 + 1) (at + (1 + 4)) (omega arith) in
+      let d = byte (at + 4 + 2) (at + (1 + 5)) (omega arith) in
+      let e = byte (at + 4 + 2 + 1) (at + 7) (omega arith) in
       omega arith
 
 module _ (bs : List ℕ) (good : GoodBook bs) where

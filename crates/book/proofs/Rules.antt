@@ -2,11 +2,12 @@
 use Prim.Native.Nat.{ℕ, zero, suc, _+_, _*_, _-_, _≤_, _<_, _^_}
 use native.Mathlib.Omega.{arith}
 use native.Mathlib.Nat.{mul-le-mul-left}
-use mathlib.Core.Path.{_≡_, refl, sym, ap₂, _∙_}
+use native.Mathlib.Numerals.{add-one}
+use mathlib.Core.Path.{_≡_, refl, sym, ap, ap₂, _∙_}
 use mathlib.Core.Logic.{_⊎_, inl, inr}
 use mathlib.Core.Bool.{Bool, true, false, true≢false, false≢true, not, _&&_, _||_}
 use lib.Dec.{eqb}
-use borrow.Author.Tests.{eq-eqb, eqb-true, eqb-false, leb-true, le-leb}
+use borrow.Author.Tests.{eq-eqb, eqb-true, eqb-false, leb-true, le-leb, not-true}
 use Rattle.book.specs.Rule.{Rule, _≐_, _≼_, _and_, _or_, _⇒_, never, every, Holds, run, all}
 
 pub product-small : (a b : ℕ) → a < 65536 → b < 65536 → a * b < 2 ^ 32
@@ -18,30 +19,6 @@ product-small a b h k = go (mul-le-mul-left a (below b k))
     go : a * b ≤ a * 65535 → a * b < 2 ^ 32
     go m = omega arith
 
--- ---- a loop over numbers
-
-module _ (test : ℕ → Bool) where
-  pub all-end : (first count : ℕ) → count ≤ 0 → all first count test ≡ true
-  unfolding all
-  all-end first zero h = refl
-  all-end first (suc count) h = absurd (omega arith)
-
-  pub all-fail : (first count : ℕ) → 0 < count → test first ≡ false → all first count test ≡ false
-  unfolding all
-  all-fail first zero h e = absurd (omega arith)
-  all-fail first (suc count) h e = simp e
-
-  pub all-on : (first count : ℕ) → 0 < count → test first ≡ true → all (first + 1) (count - 1) test ≡ all first count test
-  unfolding all
-  all-on first zero h e = absurd (omega arith)
-  all-on first (suc count) h e = ap₂ (λ (x n : ℕ). all x n test) (next first) (less count) ∙ sym (simp e)
-    where
-      next : (x : ℕ) → x + 1 ≡ suc x
-      next x = omega arith
-
-      less : (n : ℕ) → suc n - 1 ≡ n
-      less n = omega arith
-
 -- ---- Booleans
 
 pub and-left : (a b : Bool) → (a && b) ≡ true → a ≡ true
@@ -51,6 +28,14 @@ and-left false b e = absurd (false≢true e)
 pub and-right : (a b : Bool) → (a && b) ≡ true → b ≡ true
 and-right true b e = e
 and-right false b e = absurd (false≢true e)
+
+pub ends-in-false : (a b : Bool) → b ≡ false → (a && b) ≡ false
+ends-in-false true b e = e
+ends-in-false false b e = refl
+
+pub ends-in-true : (a b : Bool) → b ≡ true → (a && b) ≡ a
+ends-in-true true b e = e
+ends-in-true false b e = refl
 
 pub both : (a b : Bool) → a ≡ true → b ≡ true → (a && b) ≡ true
 both a b p q = simp (p, q)
@@ -77,6 +62,49 @@ denied false e h = false≢true h
 when : (a b : Bool) → (a ≡ true → b ≡ true) → (not a || b) ≡ true
 when true b h = h refl
 when false b h = refl
+
+-- ---- a loop over numbers
+
+module _ (test : ℕ → Bool) where
+  pub all-end : (first count : ℕ) → count ≤ 0 → all first count test ≡ true
+  unfolding all
+  all-end first zero h = refl
+  all-end first (suc count) h = absurd (omega arith)
+
+  pub all-fail : (first count : ℕ) → 0 < count → test first ≡ false → all first count test ≡ false
+  unfolding all
+  all-fail first zero h e = absurd (omega arith)
+  all-fail first (suc count) h e = simp e
+
+  pub all-on : (first count : ℕ) → 0 < count → test first ≡ true → all (first + 1) (count - 1) test ≡ all first count test
+  unfolding all
+  all-on first zero h e = absurd (omega arith)
+  all-on first (suc count) h e = ap₂ (λ (x n : ℕ). all x n test) (next first) (less count) ∙ sym (simp e)
+    where
+      next : (x : ℕ) → x + 1 ≡ suc x
+      next x = omega arith
+
+      less : (n : ℕ) → suc n - 1 ≡ n
+      less n = omega arith
+
+  -- one number more at the end
+  all-suc : (first count : ℕ) → all first (suc count) test ≡ (all first count test && test (first + count))
+  unfolding all
+  all-suc first zero = ends-in-true (test first) true refl ∙ ap test (unmoved first)
+    where
+      unmoved : (a : ℕ) → a ≡ a + 0
+      unmoved a = omega arith
+  all-suc first (suc count) = regrouped (test first) (all (suc first) count test) (test (first + suc count)) (all-suc (suc first) count ∙ ap (λ (x : ℕ). all (suc first) count test && test x) (moved first count))
+    where
+      moved : (a b : ℕ) → suc a + b ≡ a + suc b
+      moved a b = omega arith
+
+      regrouped : (a b d : Bool) {c : Bool} → c ≡ (b && d) → (a && c) ≡ ((a && b) && d)
+      regrouped true b d e = e
+      regrouped false b d e = refl
+
+  pub all-more : (first count : ℕ) → all first (count + 1) test ≡ (all first count test && test (first + count))
+  all-more first count = ap (λ (n : ℕ). all first n test) (add-one count) ∙ all-suc first count
 
 -- ---- every number of a range
 
@@ -123,6 +151,10 @@ mutual
 -- what is not run does not hold
 pub run-fails : (r : Rule) → run r ≡ false → Holds r → ⊥
 run-fails r e h = true≢false (sym (holds-run r h) ∙ e)
+
+-- what does not hold is not run
+pub fails-run : (r : Rule) → (Holds r → ⊥) → run r ≡ false
+fails-run r h = not-true (run r) (refuted (run r) (λ e. h (run-holds r e)))
 
 -- where the first part of "if .. then" is known
 pub when-false : (a b : Bool) → a ≡ false → true ≡ (not a || b)

@@ -1,9 +1,9 @@
 -- The order in which a book's rules are tested, and which rule each loop asks for. What a good book is stands in GoodBook.antt.
-use Prim.Native.Nat.{ℕ, _*_, _<_, _^_}
+use Prim.Native.Nat.{ℕ, _+_, _*_, _-_, _≤_, _<_, _^_}
 use mathlib.Core.List.{List}
 use Rattle.book.specs.Guide.{Guide}
 use Rattle.book.specs.Rule.{Rule, _and_, every}
-use Rattle.book.specs.GoodBook.{editionRule, lengthRule, blocksRule, countsRule, lineRule, codeRule, fieldRule, identifierRule, rowRule, fieldRises, deeperRule, framesRule, carrierRule, structureRule}
+use Rattle.book.specs.GoodBook.{editionRule, lengthRule, blocksRule, countsRule, lineRule, codeRule, fieldRule, identifierRule, rowRule, fieldRises, deeperRule, framesRule, carrierRule, structureRule, pairRule}
 use Rattle.book.specs.declared.every.Each.{Each}
 use Rattle.book.specs.declared.every.Each.the-variants.{Line, Code, Field, Identifier, Row, FieldRises, Deeper}
 
@@ -42,10 +42,26 @@ recordsRule g = linesRule g and codesRule g and fieldsRule g and identifiersRule
 abbrev pub structuresRule : Guide → Rule
 structuresRule g = every 1 (g .lines) (structureRule g)
 
+-- one home: each line with those before it, which are told apart from each other by then
+unfoldable pub homeRule : Guide → ℕ → Rule
+homeRule g m = every 1 (m - 1) (λ l. pairRule g l m)
+
+abbrev pub homesRule : Guide → Rule
+homesRule g = every 1 (g .lines) (homeRule g)
+
 unfoldable pub framedRule : Guide → Rule
-framedRule g = framesRule g and carrierRule g and structuresRule g
+framedRule g = framesRule g and carrierRule g and structuresRule g and homesRule g
 
 -- what a good header leaves: counts that a book of 65,535 bytes has room for
 pub record Small (g : Guide) : Type 0 where
   pub some-lines : 0 < g .lines
   pub rows : g .identifiers * g .lines < 2 ^ 16
+  pub codes : g .codes < 2 ^ 13
+
+-- what good records leave besides: lines whose codes stay inside their block
+abbrev pub CodesWithin : Guide → ℕ → Type 0
+CodesWithin g l = g .firstCode l + g .codeCount l ≤ g .codes
+
+pub record Within (g : Guide) : Type 0 where
+  pub small : Small g
+  pub line-codes : (l : ℕ) → 1 ≤ l → l ≤ g .lines → CodesWithin g l

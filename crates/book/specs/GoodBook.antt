@@ -271,9 +271,9 @@ module _ (g : Guide) where
   unfoldable pub carrierGroupRule : ℕ → Rule
   carrierGroupRule l = aroundRule l (g .carrier) ⇒ (g .required l ≐ 1 and g .maximum l ≐ 1)
 
-  -- what is asked of a line among the others
+  -- what is asked of a line among the others, but for its home
   unfoldable pub structureRule : ℕ → Rule
-  structureRule l = (risingFieldsRule l and triggerRule l and fallRule l) and onlyFramesRule l and oneHomeRule l and carrierGroupRule l
+  structureRule l = (risingFieldsRule l and triggerRule l and fallRule l) and onlyFramesRule l and carrierGroupRule l
 
 -- a good book: every rule holds. The layers above use these clauses by name.
 pub record GoodBook (bs : List ℕ) : Type 0 where

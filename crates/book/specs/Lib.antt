@@ -4,5 +4,6 @@ pub mod Guide
 pub mod Rule
 pub mod GoodBook
 pub mod Each
+pub mod Tables
 pub mod Structure
 pub mod View

@@ -1,8 +1,8 @@
 -- A book as the layers above see it: lines, fields and rows with their values. Total for any bytes; the laws of
--- proofs/Clauses.antt say what holds of a good one.
+-- proofs/ViewedLines.antt and proofs/ViewedRows.antt say what holds of a good one.
 use Prim.Native.Nat.{ℕ, zero, suc, _+_, _*_, _-_}
 use mathlib.Core.List.{List, [], _∷_, map}
-use mathlib.Core.Bool.{Bool}
+use mathlib.Core.Bool.{Bool, cond}
 use lib.Dec.{eqb}
 use lib.ListN.{take}
 use Rattle.book.specs.Guide.{Guide}
@@ -80,3 +80,8 @@ rowOf g p l =
       joint = g .joint (rowNumber g p l);
       conditions = g .condition (rowNumber g p l) 0 ∷ g .condition (rowNumber g p l) 1 ∷ g .condition (rowNumber g p l) 2 ∷ [];
     }
+
+-- the conditions of a row that are in use: "unused bytes zero and last"
+abbrev pub inUse : List ℕ → List ℕ
+inUse [] = []
+inUse (x ∷ conditions) = cond (eqb x 0) [] (x ∷ inUse conditions)

@@ -4,8 +4,8 @@ ghost use mathlib.Core.Path.{_≡_};
 ghost use Prim.Native.Nat.{_+_, _*_, _-_, _≤_, _<_, _^_};
 ghost use Rattle.book.specs.Rule.{run, every, _and_};
 ghost use Rattle.book.specs.Guide.{guideOf};
-ghost use Rattle.book.specs.GoodBook.{editionRule, lengthRule, blocksRule, countsRule, risingFieldsRule, triggerRule, fallRule, onlyFramesRule, oneHomeRule, aroundRule, carrierGroupRule, structureRule, eachLine, Judged};
-ghost use Rattle.book.specs.Each.{Small, headerRule, linesRule, codesRule, fieldsRule, identifiersRule, rowsRule, structuresRule, recordsRule, framedRule};
+ghost use Rattle.book.specs.GoodBook.{risingFieldsRule, triggerRule, fallRule, aroundRule, carrierGroupRule, structureRule, Judged};
+ghost use Rattle.book.specs.Each.{Small, Within, headerRule, linesRule, codesRule, fieldsRule, identifiersRule, rowsRule, structuresRule, recordsRule, framedRule};
 use crate::every;
 use crate::every::Each;
 use crate::header;
@@ -54,15 +54,6 @@ fn suits_carrier(book: &[u8], line: u32) -> bool
     )
 }
 
-fn has_one_home(book: &[u8], line: u32) -> bool
-    requires { ⌜ (line < 2 ^ 16) × (0 < guideOf (now book) .lines) ⌝ }
-    ensures { λ r. ⌜ r ≡ run (oneHomeRule (guideOf (now (book .entry))) line) ⌝ }
-{
-    let next = line + 1;
-    let count = less(layout::lines(book), line);
-    homes::is_apart_from(book, line, next, count)
-}
-
 fn suits_neighbours(book: &[u8], line: u32) -> bool
     requires { ⌜ (line < 2 ^ 16) × (0 < guideOf (now book) .lines) ⌝ }
     ensures { λ r. ⌜ r ≡ run (risingFieldsRule (guideOf (now (book .entry))) line and triggerRule (guideOf (now (book .entry))) line and fallRule (guideOf (now (book .entry))) line) ⌝ }
@@ -76,8 +67,7 @@ fn structure_is_good(book: &[u8], line: u32) -> bool
     ensures { λ r. ⌜ r ≡ run (structureRule (guideOf (now (book .entry))) line) ⌝ }
 {
     suits_neighbours(book, line)
-        & (structure::is_no_other_frame(book, line)
-            & (has_one_home(book, line) & suits_carrier(book, line)))
+        & (structure::is_no_other_frame(book, line) & suits_carrier(book, line))
 }
 
 fn structures_are_good(book: &[u8], first: u32, count: u32) -> bool
@@ -172,10 +162,12 @@ fn all_structures_are_good(book: &[u8]) -> bool
 }
 
 fn frame_is_good(book: &[u8]) -> bool
-    requires { ⌜ Small (guideOf (now book)) ⌝ }
+    requires { ⌜ Within (guideOf (now book)) ⌝ }
     ensures { λ r. ⌜ r ≡ run (framedRule (guideOf (now (book .entry)))) ⌝ }
 {
-    structure::has_frames(book) & (structure::has_carrier(book) & all_structures_are_good(book))
+    structure::has_frames(book)
+        & (structure::has_carrier(book)
+            & (all_structures_are_good(book) & homes::homes_are_good(book)))
 }
 
 // 01, number 1: 0 for a good book, 1 for any other bytes.

@@ -1,63 +1,35 @@
-// One home: two segment lines of the same tag are told apart by their codes. The three loops over pairs of lines and of codes;
-// docs/DECISIONS.md says what they cost on hostile books.
+// One home: two segment lines of the same tag are told apart by their codes. A line's codes are marked by number, and those of each
+// line of its tag before it must not be marked. The lines before are told apart by then, so together they have no more codes than
+// the book: each line is paid with the code count, however many lines share its tag.
 ghost use mathlib.Core.Path.{_≡_};
-ghost use Prim.Native.Nat.{_+_, _≤_, _<_, _^_};
-ghost use Rattle.book.specs.Rule.{run, every};
+ghost use Prim.Native.Nat.{_≤_};
+ghost use Rattle.book.specs.Rule.{run};
 ghost use Rattle.book.specs.Guide.{guideOf};
-ghost use Rattle.book.specs.GoodBook.{otherThanRule, notAmongRule, sameTagRule, samePlaceRule, toldApartRule, pairRule};
+ghost use Rattle.book.specs.GoodBook.{sameTagRule, samePlaceRule, toldApartRule, pairRule};
+ghost use Rattle.book.specs.Each.{CodesWithin, Within, homeRule, homesRule};
+ghost use Rattle.book.specs.Tables.{Numbered, Marked};
 use crate::layout;
+use crate::numbering;
+use crate::numbering::MOST_CODES;
+use crate::numbering::Marks;
+use crate::numbering::Numbers;
 
-// Is this another code than the one whose bytes are these two numbers?
-fn is_other_than(book: &[u8], low: u32, high: u32, code: u32) -> bool
-    ensures { λ r. ⌜ r ≡ run (otherThanRule (guideOf (now (book .entry))) low high code) ⌝ }
+// Which numbers the line's codes have: 1 at these, 0 at the others.
+fn marks_of(book: &[u8], numbers: &Numbers, line: u32) -> Marks
+    requires { ⌜ (Numbered (guideOf (now book)) (now numbers)) × (CodesWithin (guideOf (now book)) line) ⌝ }
+    ensures { λ r. ⌜ Marked (guideOf (now (book .entry))) (now (numbers .entry)) r line ⌝ }
 {
-    if low != layout::code_low(book, code) {
-        return true;
-    }
-    high != layout::code_high(book, code)
-}
-
-// The innermost of the three loops: the code that is sought is read once, before it.
-fn are_other_than(book: &[u8], low: u32, high: u32, first: u32, count: u32) -> bool
-    requires { ⌜ first + count ≤ 2 ^ 17 ⌝ }
-    ensures { λ r. ⌜ r ≡ run (every first count (otherThanRule (guideOf (now (book .entry))) low high)) ⌝ }
-{
-    let mut code = first;
-    let mut left = count;
-    while left > 0 {
-        if !is_other_than(book, low, high, code) {
-            return false;
-        }
-        code += 1;
-        left -= 1;
-    }
-    true
-}
-
-fn is_not_among(book: &[u8], line: u32, code: u32) -> bool
-    ensures { λ r. ⌜ r ≡ run (notAmongRule (guideOf (now (book .entry))) line code) ⌝ }
-{
-    let low = layout::code_low(book, code);
-    let high = layout::code_high(book, code);
     let first = layout::first_code(book, line);
     let count = layout::code_count(book, line);
-    are_other_than(book, low, high, first, count)
-}
-
-fn none_among(book: &[u8], line: u32, first: u32, count: u32) -> bool
-    requires { ⌜ first + count ≤ 2 ^ 17 ⌝ }
-    ensures { λ r. ⌜ r ≡ run (every first count (notAmongRule (guideOf (now (book .entry))) line)) ⌝ }
-{
-    let mut code = first;
-    let mut left = count;
-    while left > 0 {
-        if !is_not_among(book, line, code) {
-            return false;
-        }
-        code += 1;
-        left -= 1;
+    let mut marks = [0u8; MOST_CODES];
+    let mut marked: u32 = 0;
+    while marked < count {
+        let code = first + marked;
+        let number = numbers[code as usize];
+        marks[number as usize] = 1;
+        marked += 1;
     }
-    true
+    marks
 }
 
 fn have_same_tag(book: &[u8], line: u32, other: u32) -> bool
@@ -77,35 +49,67 @@ fn have_same_place(book: &[u8], line: u32, other: u32) -> bool
             & (component == layout::selector_component(book, other)))
 }
 
-fn are_told_apart(book: &[u8], line: u32, other: u32) -> bool
+// The marks are those of the other line's codes.
+fn are_told_apart(book: &[u8], numbers: &Numbers, marks: &Marks, line: u32, other: u32) -> bool
+    requires { ⌜ (Marked (guideOf (now book)) (now numbers) (now marks) other) × (CodesWithin (guideOf (now book)) line) ⌝ }
     ensures { λ r. ⌜ r ≡ run (toldApartRule (guideOf (now (book .entry))) line other) ⌝ }
 {
-    let first = layout::first_code(book, line);
-    let count = layout::code_count(book, line);
-    have_same_place(book, line, other) & none_among(book, other, first, count)
+    if !have_same_place(book, line, other) {
+        return false;
+    }
+    let mut code = layout::first_code(book, line);
+    let mut left = layout::code_count(book, line);
+    while left > 0 {
+        let number = numbers[code as usize];
+        if marks[number as usize] != 0 {
+            return false;
+        }
+        code += 1;
+        left -= 1;
+    }
+    true
 }
 
-// The codes are compared only where the tags are the same.
-fn is_pair_good(book: &[u8], line: u32, other: u32) -> bool
+// The codes are looked at only where the tags are the same.
+fn is_pair_good(book: &[u8], numbers: &Numbers, marks: &Marks, line: u32, other: u32) -> bool
+    requires { ⌜ (Marked (guideOf (now book)) (now numbers) (now marks) other) × (CodesWithin (guideOf (now book)) line) ⌝ }
     ensures { λ r. ⌜ r ≡ run (pairRule (guideOf (now (book .entry))) line other) ⌝ }
 {
     if !have_same_tag(book, line, other) {
         return true;
     }
-    are_told_apart(book, line, other)
+    are_told_apart(book, numbers, marks, line, other)
 }
 
-pub fn is_apart_from(book: &[u8], line: u32, first: u32, count: u32) -> bool
-    requires { ⌜ first + count ≤ 2 ^ 17 ⌝ }
-    ensures { λ r. ⌜ r ≡ run (every first count (pairRule (guideOf (now (book .entry))) line)) ⌝ }
+fn has_one_home(book: &[u8], numbers: &Numbers, line: u32) -> bool
+    requires { ⌜ (Numbered (guideOf (now book)) (now numbers)) × (Within (guideOf (now book))) × (1 ≤ line) × (line ≤ guideOf (now book) .lines) ⌝ }
+    ensures { λ r. ⌜ r ≡ run (homeRule (guideOf (now (book .entry))) line) ⌝ }
 {
-    let mut other = first;
-    let mut left = count;
+    let marks = marks_of(book, numbers, line);
+    let mut earlier: u32 = 1;
+    let mut left = line - 1;
     while left > 0 {
-        if !is_pair_good(book, line, other) {
+        if !is_pair_good(book, numbers, &marks, earlier, line) {
             return false;
         }
-        other += 1;
+        earlier += 1;
+        left -= 1;
+    }
+    true
+}
+
+pub fn homes_are_good(book: &[u8]) -> bool
+    requires { ⌜ Within (guideOf (now book)) ⌝ }
+    ensures { λ r. ⌜ r ≡ run (homesRule (guideOf (now (book .entry)))) ⌝ }
+{
+    let numbers = numbering::numbers_of(book);
+    let mut line: u32 = 1;
+    let mut left = layout::lines(book);
+    while left > 0 {
+        if !has_one_home(book, &numbers, line) {
+            return false;
+        }
+        line += 1;
         left -= 1;
     }
     true

@@ -8,6 +8,7 @@ mod homes;
 mod identifiers;
 pub mod layout;
 mod lines;
+mod numbering;
 mod numbers;
 mod rows;
 mod structure;

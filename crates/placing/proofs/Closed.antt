@@ -12,22 +12,9 @@ use Rattle.placing.proofs.Structured.{Structured}
 use Rattle.placing.specs.Placement.{Contents, nothing, segment, instance, homes, size, parents, Runs, Placed}
 use Rattle.placing.specs.Walking.{isTrigger, target}
 use Rattle.placing.specs.Tree.{climb, owner, lastOf, heldBy, closed, notedParents, closedParents}
-use Rattle.placing.proofs.Trees.{Same, it, other, same}
+use Rattle.placing.proofs.Trees.{homes-append, homes-length, Same, it, other, same}
 use Rattle.placing.proofs.Walks.{homeFor, homeFor-target, opening-le}
 use Rattle.placing.proofs.Noted.{tree}
-
-homes-append : (ks : Contents) (xs rest : List ℕ) → homes ks (xs ++ rest) ≡ homes ks xs ++ rest
-unfolding homes
-homes-append nothing xs rest = refl
-homes-append (segment ks l) xs rest = homes-append ks (l ∷ xs) rest
-homes-append (instance ks g inner) xs rest =
-    ap (λ (x : List ℕ). homes ks (suc g ∷ x)) (homes-append inner xs rest) ∙ homes-append ks (suc g ∷ homes inner xs) rest
-
-homes-length : (ks : Contents) (rest : List ℕ) → length (homes ks rest) ≡ size ks + length rest
-unfolding homes size
-homes-length nothing rest = omega arith
-homes-length (segment ks l) rest = homes-length ks (l ∷ rest) ∙ omega arith
-homes-length (instance ks g inner) rest = homes-length ks (suc g ∷ homes inner rest) ∙ (let e = homes-length inner rest in omega arith)
 
 -- every home of a list lies behind line m
 abbrev Above : ℕ → List ℕ → Type 0

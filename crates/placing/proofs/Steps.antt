@@ -8,7 +8,7 @@ use lib.Dec.{eqb, ltb, leb}
 use lib.ListN.{length, getD, take, drop, set, length-take, drop-of-length-le}
 use lib.Seq.{drop-cons, getD-take, take-take, take-suc-set, set-out}
 use borrow.Author.Tests.{lt-ltb, le-ltb, eq-eqb, ne-eqb, le-leb, lt-leb, ltb-true, eqb-true, eqb-false}
-use Rattle.placing.proofs.Scans.{left, right}
+use Rattle.placing.proofs.LeavingOut.{left, right}
 use Rattle.placing.specs.declared.walk.Level.{Level}
 use Rattle.placing.specs.declared.walk.Walk.{Walk}
 use Rattle.book.specs.Guide.{guideOf, lineAt}

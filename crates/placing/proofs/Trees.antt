@@ -9,7 +9,24 @@ use lib.ListN.{length, getD, take, drop}
 use borrow.Author.Tests.{eq-eqb, ne-eqb, eqb-true, eqb-false, ltb-true, ltb-false, lt-ltb, le-ltb}
 use Rattle.placing.specs.Plan.{Plan, station, deep, opening, Of}
 use Rattle.placing.proofs.Structured.{Frame, Trigger, Structured}
-use Rattle.placing.specs.Placement.{Contents, nothing, segment, instance, homes, count, UpTo, Counted, Runs, Placed, Allowed, Begins}
+use Rattle.placing.specs.Placement.{Contents, nothing, segment, instance, homes, size, count, UpTo, Counted, Runs, Placed, Allowed, Begins}
+
+-- ---- the homes of a tree
+
+pub homes-append : (ks : Contents) (xs rest : List ℕ) → homes ks (xs ++ rest) ≡ homes ks xs ++ rest
+unfolding homes
+homes-append nothing xs rest = refl
+homes-append (segment ks l) xs rest = homes-append ks (l ∷ xs) rest
+homes-append (instance ks g inner) xs rest =
+    ap (λ (x : List ℕ). homes ks (suc g ∷ x)) (homes-append inner xs rest) ∙ homes-append ks (suc g ∷ homes inner xs) rest
+
+pub homes-length : (ks : Contents) (rest : List ℕ) → length (homes ks rest) ≡ size ks + length rest
+unfolding homes size
+homes-length nothing rest = omega arith
+homes-length (segment ks l) rest = homes-length ks (l ∷ rest) ∙ omega arith
+homes-length (instance ks g inner) rest = homes-length ks (suc g ∷ homes inner rest) ∙ (let e = homes-length inner rest in omega arith)
+
+-- ---- counting
 
 -- one more
 pub one-here : (m l n : ℕ) → m ≡ l → cond (eqb m l) 1 0 + n ≡ suc n

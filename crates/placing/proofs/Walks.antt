@@ -12,7 +12,7 @@ use Rattle.placing.specs.Plan.{Plan, station, deep, opening, Of}
 use Rattle.placing.proofs.Structured.{Frame, Trigger, Structured}
 use Rattle.placing.specs.Placement.{Contents, nothing, segment, instance, homes, count, UpTo, Counted, Runs, Placed, Allowed, Begins}
 use Rattle.placing.specs.Walking.{level, start, isTrigger, target, isPlaceable, isWanted, isClear, isPassed, canCloseAll, canMove, raised, admits, entered, stacked, advanced, walked, isAlive}
-use Rattle.placing.proofs.Scans.{both, left, right, denied, refuted, Met, clear-none, clear-yes, Skipped, passes-all, passes-yes}
+use Rattle.placing.proofs.LeavingOut.{both, left, right, denied, refuted, Met, clear-none, clear-yes, Skipped, passes-all, passes-yes}
 use Rattle.placing.proofs.Trees.{one-here, one-other, Same, it, other, same, Next, Full, Good, Open, good-open, valid-good, good-valid, good-runs, runs-of}
 
 -- the open line and its count, and the levels below it, of what an instance of p holds

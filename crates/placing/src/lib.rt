@@ -1,6 +1,11 @@
 // Placing: which line of the guide book each segment of a message belongs to, and in which instance of which group.
 // 01, "Placing and judging", first paragraph; to be read in this order: home, walk, tree, passes.
-pub mod home;
-pub mod passes;
-pub mod tree;
-pub mod walk;
+mod home;
+mod passes;
+mod tree;
+mod walk;
+
+pub use home::find_home;
+pub use passes::Placing;
+pub use passes::test_placing;
+pub use passes::write_tree;

@@ -18,6 +18,7 @@ use Rattle.reading.proofs.cursor.Cursor.next_segment.Reads as next-segm
 use Rattle.reading.proofs.lookup.component_span.Reads as component-span
 use Rattle.reading.proofs.lookup.find_component.Reads as find-component
 use Rattle.reading.proofs.compare.same_component.Reads as same-component
+use Rattle.reading.proofs.tag.tag_at.Reads as tag-at
 
 -- one result: a promise speaks of a call's lifetimes κs, its arguments a, its result r, and its arguments at exit x
 abbrev pub One {ℓ} : {K : Type ℓ} {A R X : K → Type ℓ} → ((κs : K) → A κs → R κs → X κs → Type 0) → Type ℓ
@@ -75,3 +76,6 @@ one-find-component κs a r q x y m n = (λ i. ((m .memory ∙ sym (n .memory)) i
 
 pub one-same-component : One same-component.Post
 one-same-component κs a r q x y m n = m ∙ sym n
+
+pub one-tag-at : One tag-at.Post
+one-tag-at κs a r q x y m n = m .0 ∙ sym (n .0)

@@ -17,6 +17,26 @@ mod declared {
         pub fn probe_segments(message: *const u8, message_len: usize) -> usize;
         pub fn probe_bad_place(message: *const u8, message_len: usize) -> usize;
         pub fn probe_next(message: *const u8, message_len: usize, at: usize) -> usize;
+        pub fn probe_place(
+            message: *const u8,
+            message_len: usize,
+            segments: u32,
+            book: *const u8,
+            book_len: usize,
+        ) -> u64;
+        pub fn probe_write_tree(
+            message: *const u8,
+            message_len: usize,
+            segments: u32,
+            book: *const u8,
+            book_len: usize,
+            starts: *mut u32,
+            starts_len: usize,
+            homes: *mut u32,
+            homes_len: usize,
+            parents: *mut u32,
+            parents_len: usize,
+        );
     }
 }
 
@@ -29,8 +49,8 @@ pub fn find_component(
     part: &mut [usize],
 ) {
     // SAFETY: pointers and lengths come from slices, which are valid for the
-    // call and, one of them being mutable, do not overlap. The other calls
-    // below only lend their one slice.
+    // call and, one of them being mutable, do not overlap. Of the other calls
+    // below, all but the last lend only slices to be read.
     unsafe {
         declared::tracksaddle_find_component(
             message.as_ptr(),
@@ -66,4 +86,48 @@ pub fn bad_place(message: &[u8]) -> usize {
 pub fn next(message: &[u8], at: usize) -> usize {
     // SAFETY: as above.
     unsafe { declared::probe_next(message.as_ptr(), message.len(), at) }
+}
+
+/// The table's number, 0, 10 or 11, and for 10 and 11 its place, for the first
+/// so many segments, as far as they are well-formed. No other number is asked.
+pub fn place(message: &[u8], segments: u32, book: &[u8]) -> (u32, u32) {
+    // SAFETY: as above.
+    let answer = unsafe {
+        declared::probe_place(
+            message.as_ptr(),
+            message.len(),
+            segments,
+            book.as_ptr(),
+            book.len(),
+        )
+    };
+    ((answer >> 32) as u32, answer as u32)
+}
+
+/// Writes tag offsets, line numbers and the tree, for the first so many
+/// segments, as many as there are and as fit into each table.
+pub fn write_tree(
+    message: &[u8],
+    segments: u32,
+    book: &[u8],
+    starts: &mut [u32],
+    homes: &mut [u32],
+    parents: &mut [u32],
+) {
+    // SAFETY: as above; the three tables, each mutable, do not overlap either.
+    unsafe {
+        declared::probe_write_tree(
+            message.as_ptr(),
+            message.len(),
+            segments,
+            book.as_ptr(),
+            book.len(),
+            starts.as_mut_ptr(),
+            starts.len(),
+            homes.as_mut_ptr(),
+            homes.len(),
+            parents.as_mut_ptr(),
+            parents.len(),
+        )
+    }
 }

@@ -22,6 +22,8 @@ pub mod layout;
 pub mod limits;
 mod structure;
 
+pub use decode::decode;
+
 use fault::Fault;
 use std::ops::Range;
 
@@ -135,7 +137,7 @@ pub struct Condition {
 
 /// The book that these bytes are, or the first rule that they break.
 pub fn check(bytes: &[u8]) -> Result<Book, Fault> {
-    let book = decode::decode(bytes)?;
+    let book = decode(bytes)?;
     structure::check_structure(&book)?;
     Ok(book)
 }
@@ -159,6 +161,14 @@ impl Book {
             }
         }
         groups
+    }
+
+    /// The index after the line and, if it is a group, after all lines in it.
+    pub fn end_of(&self, index: usize) -> usize {
+        let line = &self.lines[index];
+        let after = &self.lines[index + 1..];
+        let deeper = after.iter().take_while(|other| other.depth > line.depth);
+        index + 1 + deeper.count()
     }
 
     /// Whether the line opens the instances of a group.

@@ -6,27 +6,40 @@
 //! - [`reading`]: the independent reading of a message
 //! - [`book`]: the independent check of a guide book, random good books, and
 //!   ways to break each rule
-//! - [`machine`]: the state machine in ordinary Rust, the benchmark's yardstick
+//! - [`placing`]: the independent placing of segments, random messages for a
+//!   book, and ways to break their order
+//! - [`machine`]: the state machine in ordinary Rust, the reading benchmark's
+//!   yardstick
 //! - [`archives`]: safe calls into the proved archives
-//! - [`enumeration`], [`random`]: where the compared texts come from
+//! - [`enumeration`], [`random`], [`writing`]: where the compared texts come from
+//! - [`arguments`], [`hex`], [`described`]: what the programs are called with,
+//!   leave behind and print
 //!
 //! `cargo test` tests the judge itself and needs no archive. The programs link
-//! `libtracksaddle.a` and `libreading_probe.a` from the folder that
-//! `TRACKSADDLE_ARCHIVES` names by its absolute path. In the repository's root:
+//! `libtracksaddle.a`, `libreading_probe.a` and `libplacing_probe.a` from the
+//! folder that `TRACKSADDLE_ARCHIVES` names by its absolute path. In the
+//! repository's root:
 //!
 //! ```text
-//! tests/independent/host_archives target/host tracksaddle reading_probe
+//! tests/independent/host_archives target/host tracksaddle reading_probe placing_probe
 //! cd tests/independent
 //! export TRACKSADDLE_ARCHIVES=$PWD/../../target/host
 //! cargo run --release --bin compare_reading [SEED]
 //! cargo run --release --bin compare_book ../../books/k.bin ../../books/second.bin [SEED]
+//! cargo run --release --bin compare_placing ../../books/k.bin ../../books/second.bin [SEED]
 //! cargo run --release --bin bench_reading
+//! cargo run --release --bin bench_placing
 //! ```
 
 pub mod archives;
+pub mod arguments;
 pub mod book;
 pub mod bytes;
+pub mod described;
 pub mod enumeration;
+pub mod hex;
 pub mod machine;
+pub mod placing;
 pub mod random;
 pub mod reading;
+pub mod writing;

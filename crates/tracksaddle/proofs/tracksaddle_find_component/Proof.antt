@@ -1,4 +1,8 @@
 -- `tracksaddle_find_component` meets its contract: two numbers put one after the other are as many of the two as fit.
+use Prim.Native.Nat.{_-_, _≤_}
+use native.Mathlib.Omega.{arith}
+use mathlib.Core.Path.{_≡_}
+use lib.ListN.{set}
 use borrow.Author.Needs.{needs}
 use Rattle.reading.specs.Service.{standard}
 use Rattle.reading.proofs.Seeking.{span-inside}
@@ -16,7 +20,12 @@ put-requires : tie.Need-put-requires
 put-requires c κs = search needs
 
 sub-put : tie.Need-sub-put
-sub-put c = rw (c .before .before .before .before .before .component-span .ensures) (span-inside (c .before .before .before .before .before .before .standard .result) ((c .before .before .before .before .before .before .before .before .before .args .message .now)) (c .before .before .before .before .before .before .before .before .before .args .at) (c .before .before .before .before .before .before .before .before .before .args .element) (c .before .before .before .before .before .before .before .before .before .args .component) .ordered)
+sub-put c =
+    let args = c .before .before .before .before .before .before .before .before .before .args in
+    let span = c .before .before .before .before .before .component-span .result in
+    let ordered : span .start ≤ span .end =
+    rw (c .before .before .before .before .before .component-span .ensures) (span-inside (c .before .before .before .before .before .before .standard .result) (args .message .now) (args .at) (args .element) (args .component) .ordered) in
+    omega arith
 
 put-requires-2 : tie.Need-put-requires-2
 put-requires-2 c κs = search needs
@@ -25,7 +34,14 @@ same-length : tie.Need-same-length
 same-length c = search needs
 
 returns : tie.Need-returns
-returns c = rw (← (c .before .before .before .before .before .before .before .before .before .standard .ensures), ← (c .before .before .before .before .before .before .before .before .component-span .ensures)) (two-puts _ _ _ _ _ (c .before .before .before .before .before .before .put .ensures) (c .before .before .put2 .ensures))
+returns c =
+    let spanned = c .before .before .before .before .before .before .before .before .component-span in
+    let span = spanned .result in
+    let once = c .before .before .before .before .before .before .put .last .0 in
+    let twice = c .before .before .put2 .last .0 in
+    let offset : once ≡ set (c .before .before .before .before .before .before .before .before .before .before .before .before .args .part .now) 0 (span .start) = c .before .before .before .before .before .before .put .ensures in
+    let long : twice ≡ set once 1 (span .end - span .start) = c .before .before .put2 .ensures in
+    rw (← (c .before .before .before .before .before .before .before .before .before .standard .ensures), ← (spanned .ensures)) (two-puts _ _ _ _ _ offset long)
 
 pub tracksaddle-find-component-spec : {M : Type 1} → statement M
 tracksaddle-find-component-spec =

@@ -15,8 +15,8 @@
 //! good, some field allows one. Some books forbid it, since they are good too.
 
 use super::edit::{
-    make_carrier, new_tag, optional_group, optional_line, plain_field, random_code,
-    random_identifier, required_line, segment, segment_mut, set_selector,
+    insert_line, make_carrier, new_tag, optional_group, optional_line, plain_field, random_code,
+    random_identifier, required_line, segment, segment_mut, set_selector, smallest_book,
 };
 use super::layout::{row, Layout, LONGEST_BOOK};
 use super::{
@@ -37,6 +37,12 @@ pub struct Size {
     pub identifiers: usize,
     /// 0 to 64.
     pub conditions: usize,
+    /// Whether UNH carries the Prüfidentifikator. Otherwise some line does, and
+    /// it and the groups around it are required once.
+    pub carried_by_the_first: bool,
+    /// Whether the depth falls by one at a time, so that groups have lines after
+    /// the groups in them. Otherwise it falls to any depth.
+    pub falls_by_one: bool,
 }
 
 impl Size {
@@ -47,6 +53,20 @@ impl Size {
             deepest: random.pick(&[0, 1, 2, 3, 7, 7]),
             identifiers: random.between(1, 4),
             conditions: random.pick(&[0, 1, 2, 3, 4, 8, 64]),
+            carried_by_the_first: false,
+            falls_by_one: false,
+        }
+    }
+
+    /// A book for placing: little but lines, and these as different as can be.
+    pub fn random_lines(random: &mut Random, most_lines: usize) -> Size {
+        Size {
+            lines: random.between(2.max(most_lines / 2), most_lines),
+            deepest: random.pick(&[1, 2, 3, 7, 7]),
+            identifiers: 1,
+            conditions: 0,
+            carried_by_the_first: random.chance(80),
+            falls_by_one: random.chance(60),
         }
     }
 }
@@ -61,7 +81,9 @@ pub fn good_book(random: &mut Random, size: &Size) -> Book {
         conditions: size.conditions,
         carrier: 1,
     };
-    choose_carrier(random, &mut book);
+    if !size.carried_by_the_first {
+        choose_carrier(random, &mut book);
+    }
     choose_tags(random, &mut book);
     choose_selectors(random, &mut book);
     choose_fields(random, &mut book);
@@ -83,10 +105,14 @@ fn random_lines(random: &mut Random, size: &Size) -> Vec<Line> {
     let group_chance = random.pick(&[10, 30, 60]);
     let fall_chance = random.pick(&[10, 30, 60]);
     let mut lines = vec![required_line(*b"UNH")];
-    let mut depth = 0;
+    let mut depth: u8 = 0;
     while lines.len() + 1 < size.lines {
         if random.chance(fall_chance) {
-            depth = random.between(0, usize::from(depth)) as u8;
+            depth = if size.falls_by_one {
+                depth.saturating_sub(1)
+            } else {
+                random.between(0, usize::from(depth)) as u8
+            };
         }
         let room_for_a_group = lines.len() + 3 <= size.lines && depth < size.deepest;
         if room_for_a_group && random.chance(group_chance) {
@@ -109,6 +135,28 @@ fn repeated(random: &mut Random, line: Line) -> Line {
         maximum: random.pick(&[1, 1, 1, 2, 2, 3, 99, 65_536, 999_999]),
         ..line
     }
+}
+
+/// Groups inside one another down to this depth, and after the groups at each
+/// depth a line of the group around them, so that many instances close at once
+/// and each may lack its last line.
+pub fn nested_book(random: &mut Random, deepest: u8) -> Book {
+    let mut book = smallest_book();
+    for depth in 0..deepest {
+        let [group, trigger] = optional_group(new_tag(random, &book), depth);
+        insert_before_unt(&mut book, repeated(random, group));
+        insert_before_unt(&mut book, trigger);
+    }
+    for depth in (1..=deepest).rev() {
+        let line = optional_line(new_tag(random, &book), depth);
+        insert_before_unt(&mut book, repeated(random, line));
+    }
+    book
+}
+
+fn insert_before_unt(book: &mut Book, line: Line) {
+    let last = book.lines.len() - 1;
+    insert_line(book, last, line);
 }
 
 fn choose_carrier(random: &mut Random, book: &mut Book) {

@@ -5,7 +5,7 @@ use super::damage::{every_damage, has_room};
 use super::edit::smallest_book;
 use super::encode::encode;
 use super::fault::Fault;
-use super::generate::{good_book, Size};
+use super::generate::{good_book, nested_book, Size};
 use super::layout::{Counts, Layout};
 use super::limits::every_limit;
 use super::*;
@@ -160,6 +160,12 @@ fn generated_books_are_good_and_read_back_as_they_were() {
     let mut random = Random::from_seed(1);
     for _ in 0..2_000 {
         let book = random_book(&mut random);
+        assert_eq!(check(&encode(&book)), Ok(book));
+        let size = Size::random_lines(&mut random, 40);
+        let book = good_book(&mut random, &size);
+        assert_eq!(check(&encode(&book)), Ok(book));
+        let deepest = random.between(1, 7) as u8;
+        let book = nested_book(&mut random, deepest);
         assert_eq!(check(&encode(&book)), Ok(book));
     }
 }

@@ -3,7 +3,7 @@ use native.Mathlib.Omega.{arith}
 use mathlib.Core.Path.{sym, _∙_}
 use borrow.Author.Needs.{needs}
 use borrow.Author.Tests.{not-true, not-false}
-use Rattle.book.proofs.Checking.{header-small, header-bad, records-bad, frame-bad, all-good}
+use Rattle.book.proofs.Checking.{header-small, records-within, header-bad, records-bad, frame-bad, all-good}
 use Rattle.book.proofs.check.check_book.Statement.{statement}
 use Rattle.book.proofs.check.check_book.Tie as tie
 
@@ -20,7 +20,10 @@ returns-2 : tie.Need-returns-2
 returns-2 c = records-bad _ (sym (c .before .records-are-good .ensures) ∙ not-true _ (c .if2 .taken))
 
 frame-is-good-requires : tie.Need-frame-is-good-requires
-frame-is-good-requires c κs = header-small _ (omega (arith, (c .before .before .before .before .shared-slice-known .given) 2)) (omega (arith, (c .before .before .before .before .shared-slice-known .given) 3)) (sym (c .before .before .before .header-is-good .ensures) ∙ not-false _ (c .before .before .if1 .left))
+frame-is-good-requires c κs =
+    records-within _
+    (header-small _ (omega (arith, (c .before .before .before .before .shared-slice-known .given) 2)) (omega (arith, (c .before .before .before .before .shared-slice-known .given) 3)) (sym (c .before .before .before .header-is-good .ensures) ∙ not-false _ (c .before .before .if1 .left)))
+    (sym (c .before .records-are-good .ensures) ∙ not-false _ (c .if2 .left))
 
 returns-3 : tie.Need-returns-3
 returns-3 c = frame-bad _ (sym (c .before .frame-is-good .ensures) ∙ not-true _ (c .if3 .taken))

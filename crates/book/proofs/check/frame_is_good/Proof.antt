@@ -15,11 +15,19 @@ has-carrier-requires c κs = search needs
 all-structures-are-good-requires : tie.Need-all-structures-are-good-requires
 all-structures-are-good-requires c κs = search needs
 
+homes-are-good-requires : tie.Need-homes-are-good-requires
+homes-are-good-requires c κs = search needs
+
 returns : tie.Need-returns
 unfolding framedRule
-returns c = ap₂ _&&_ (c .before .before .has-frames .ensures) (ap₂ _&&_ (c .before .has-carrier .ensures) (c .all-structures-are-good .ensures))
+returns c = ap₂ _&&_ (c .before .before .before .has-frames .ensures) (ap₂ _&&_ (c .before .before .has-carrier .ensures) (ap₂ _&&_ (c .before .all-structures-are-good .ensures) (c .homes-are-good .ensures)))
 
 pub frame-is-good-spec : {M : Type 1} → statement M
 frame-is-good-spec =
     tie.close
-    (tie.spec has-frames-requires has-carrier-requires all-structures-are-good-requires returns)
+    (tie.spec
+    has-frames-requires
+    has-carrier-requires
+    all-structures-are-good-requires
+    homes-are-good-requires
+    returns)

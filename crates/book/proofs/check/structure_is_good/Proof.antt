@@ -12,15 +12,12 @@ suits-neighbours-requires c κs = search needs
 is-no-other-frame-requires : tie.Need-is-no-other-frame-requires
 is-no-other-frame-requires c κs = search needs
 
-has-one-home-requires : tie.Need-has-one-home-requires
-has-one-home-requires c κs = search needs
-
 suits-carrier-requires : tie.Need-suits-carrier-requires
 suits-carrier-requires c κs = search needs
 
 returns : tie.Need-returns
 unfolding structureRule
-returns c = ap₂ _&&_ (c .before .before .before .suits-neighbours .ensures) (ap₂ _&&_ (c .before .before .is-no-other-frame .ensures) (ap₂ _&&_ (c .before .has-one-home .ensures) (c .suits-carrier .ensures)))
+returns c = ap₂ _&&_ (c .before .before .suits-neighbours .ensures) (ap₂ _&&_ (c .before .is-no-other-frame .ensures) (c .suits-carrier .ensures))
 
 pub structure-is-good-spec : {M : Type 1} → statement M
 structure-is-good-spec =
@@ -28,6 +25,5 @@ structure-is-good-spec =
     (tie.spec
     suits-neighbours-requires
     is-no-other-frame-requires
-    has-one-home-requires
     suits-carrier-requires
     returns)

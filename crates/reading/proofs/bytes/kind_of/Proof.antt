@@ -1,4 +1,5 @@
 -- `bytes::kind_of` meets its contract: each return rewrites the definition by the comparisons that led there.
+use mathlib.Core.Path.{_≡_}
 use borrow.Author.Needs.{needs}
 use borrow.Author.Tests.{eq-eqb, ne-eqb}
 use Rattle.reading.specs.Machine.{kindOf}
@@ -7,7 +8,7 @@ use Rattle.reading.proofs.bytes.kind_of.Tie as tie
 
 returns : tie.Need-returns
 unfolding kindOf
-returns c = simp (eq-eqb _ _ (c .if1 .taken))
+returns c = let released : c .before .before .args .byte ≡ c .before .before .args .service .release = c .if1 .taken in simp (eq-eqb _ _ released)
 
 returns-2 : tie.Need-returns-2
 unfolding kindOf

@@ -36,7 +36,7 @@ add-result-2 : tie.Need-add-result-2
 add-result-2 c = search needs
 
 returns-2 : tie.Need-returns-2
-returns-2 c = search needs
+returns-2 c = (omega (arith, (c .before .before .byte-at .ensures .0), (c .before .byte-at2 .ensures .0), (c .byte-at3 .ensures .0)), omega (arith, (c .before .before .byte-at .ensures .1), (c .before .byte-at2 .ensures .1), (c .byte-at3 .ensures .1)))
 
 pub tag-at-spec : {M : Type 1} → statement M
 tag-at-spec =

@@ -4,15 +4,16 @@
 use independent::archives;
 use independent::book::fault::Fault;
 use independent::book::{check, Book};
+use independent::hex::write_hex;
 use std::fmt::Arguments;
-use std::path::PathBuf;
 use std::process::exit;
 use std::sync::mpsc;
 use std::thread;
 use std::time::{Duration, Instant};
 
-/// The archive must answer within this time.
-const TIME_LIMIT: Duration = Duration::from_secs(10);
+/// The archive must answer within this time, also on a slow machine: it takes
+/// some hundredths of a second for the worst book.
+const TIME_LIMIT: Duration = Duration::from_secs(2);
 /// Books this long are put to the archive in a thread of their own, so that an
 /// archive that takes too long is told from one that has stopped.
 const WATCHED_BYTES: usize = 16_384;
@@ -143,22 +144,9 @@ fn report(
         Err(fault) => println!("  independent check: {MALFORMED}, {}", fault.description()),
     }
     println!("  proved archive:    {answered}");
-    match write_hex(bytes) {
+    match write_hex("compare_book_difference.hex", bytes) {
         Ok(path) => println!("  the book in hex:   {}", path.display()),
         Err(error) => println!("  the book could not be written: {error}"),
     }
     exit(1)
-}
-
-/// Beside the program, which lies in the target folder.
-fn write_hex(bytes: &[u8]) -> std::io::Result<PathBuf> {
-    let path = std::env::current_exe()?.with_file_name("compare_book_difference.hex");
-    let mut text = String::with_capacity(3 * bytes.len());
-    for line in bytes.chunks(16) {
-        let words: Vec<String> = line.iter().map(|byte| format!("{byte:02X}")).collect();
-        text.push_str(&words.join(" "));
-        text.push('\n');
-    }
-    std::fs::write(&path, text)?;
-    Ok(path)
 }

@@ -45,6 +45,10 @@ fn compare_malformed_books(comparison: &mut Comparison) {
         one_tag_with_all_codes(),
     );
     shared(
+        "127 lines of one tag with a code each, then 127 with all others",
+        few_codes_then_all(),
+    );
+    shared(
         "two lines of one tag, the last codes equal",
         last_codes_equal(2),
     );
@@ -154,6 +158,23 @@ fn one_tag_with_all_codes() -> Book {
     let codes = book.codes.len();
     for line in 1..=INNER_LINES {
         set_selector(&mut book, line, (1, 1), 0..codes);
+    }
+    book
+}
+
+/// The worst for a check that looks at the lines after each line: only the last
+/// lines share codes, and each of these has nearly all.
+fn few_codes_then_all() -> Book {
+    let mut book = lines_of_one_tag(INNER_LINES);
+    let codes = book.codes.len();
+    let few = INNER_LINES / 2;
+    for line in 1..=INNER_LINES {
+        let part = if line <= few {
+            line - 1..line
+        } else {
+            few..codes
+        };
+        set_selector(&mut book, line, (1, 1), part);
     }
     book
 }

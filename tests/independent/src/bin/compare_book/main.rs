@@ -12,13 +12,12 @@ mod hostile;
 mod noise;
 
 use comparison::Comparison;
+use independent::arguments;
 use independent::random::Random;
 use std::process::ExitCode;
 
-const DEFAULT_SEED: u64 = 9735;
-
 fn main() -> ExitCode {
-    let Some(arguments) = read_arguments() else {
+    let Some(arguments) = arguments::books_and_seed() else {
         eprintln!("usage: compare_book BOOK BOOK [SEED], two files and a decimal number");
         return ExitCode::from(2);
     };
@@ -49,19 +48,4 @@ fn conclude(comparison: &Comparison) -> ExitCode {
     }
     println!("compare_book: {} books, 0 differences", comparison.total());
     ExitCode::SUCCESS
-}
-
-struct Arguments {
-    books: [String; 2],
-    seed: u64,
-}
-
-fn read_arguments() -> Option<Arguments> {
-    let mut words = std::env::args().skip(1);
-    let books = [words.next()?, words.next()?];
-    let seed = match words.next() {
-        Some(word) => word.parse().ok()?,
-        None => DEFAULT_SEED,
-    };
-    words.next().is_none().then_some(Arguments { books, seed })
 }

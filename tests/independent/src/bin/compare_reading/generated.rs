@@ -2,9 +2,10 @@
 //! short ones and some of hundreds of kilobytes.
 
 use crate::comparison::Comparison;
-use independent::bytes::{is_data, is_tag_byte, Service};
+use independent::bytes::{is_tag_byte, Service};
 use independent::random::Random;
 use independent::reading::{read_message, starts};
+use independent::writing::{byte_such_that, write_component};
 
 const SERVICE: Service = Service::STANDARD;
 const SHORT_TEXTS: usize = 15_000;
@@ -113,37 +114,6 @@ fn write_segment(random: &mut Random, text: &mut Vec<u8>) {
         }
     }
     text.push(SERVICE.terminator);
-}
-
-fn write_component(random: &mut Random, text: &mut Vec<u8>) {
-    // Texts that look like segments lead lookups inside data to an answer.
-    if random.chance(5) {
-        text.extend(b"UNT");
-    }
-    for _ in 0..random.below(9) {
-        let byte = data_byte(random);
-        if SERVICE.must_be_released(byte) {
-            text.push(SERVICE.release);
-        }
-        text.push(byte);
-    }
-}
-
-fn data_byte(random: &mut Random) -> u8 {
-    if random.chance(15) {
-        random.pick(b":+'?")
-    } else {
-        byte_such_that(random, is_data)
-    }
-}
-
-fn byte_such_that(random: &mut Random, is_wanted: fn(u8) -> bool) -> u8 {
-    loop {
-        let byte = random.byte();
-        if is_wanted(byte) {
-            return byte;
-        }
-    }
 }
 
 /// A change, a loss, an insertion or a cut at some byte.

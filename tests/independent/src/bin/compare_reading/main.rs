@@ -9,13 +9,12 @@ mod kinds;
 mod wide;
 
 use comparison::Comparison;
+use independent::arguments;
 use independent::random::Random;
 use std::process::ExitCode;
 
-const DEFAULT_SEED: u64 = 9735;
-
 fn main() -> ExitCode {
-    let Some(seed) = seed_from_arguments() else {
+    let Some(seed) = arguments::seed() else {
         eprintln!("usage: compare_reading [SEED], the seed a decimal number");
         return ExitCode::from(2);
     };
@@ -33,13 +32,4 @@ fn main() -> ExitCode {
     }
     println!("compare_reading: {} cases, 0 differences", counts.total());
     ExitCode::SUCCESS
-}
-
-fn seed_from_arguments() -> Option<u64> {
-    let mut arguments = std::env::args().skip(1);
-    match (arguments.next(), arguments.next()) {
-        (None, _) => Some(DEFAULT_SEED),
-        (Some(seed), None) => seed.parse().ok(),
-        _ => None,
-    }
 }

@@ -1,0 +1,2 @@
+-- What the proofs of the probes share.
+pub mod Standard

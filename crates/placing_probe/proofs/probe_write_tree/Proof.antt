@@ -1,0 +1,34 @@
+-- `probe_write_tree` meets its contract: the writing pass does all of it.
+use borrow.Author.Needs.{needs}
+use Rattle.placing_probe.proofs.Standard.{tables}
+use Rattle.placing_probe.proofs.probe_write_tree.Statement.{statement}
+use Rattle.placing_probe.proofs.probe_write_tree.Tie as tie
+
+standard-requires : tie.Need-standard-requires
+standard-requires c κs = search needs
+
+write-tree-requires : tie.Need-write-tree-requires
+write-tree-requires c κs = search needs
+
+same-length : tie.Need-same-length
+same-length c = search needs
+
+same-length-2 : tie.Need-same-length-2
+same-length-2 c = search needs
+
+same-length-3 : tie.Need-same-length-3
+same-length-3 c = search needs
+
+returns : tie.Need-returns
+returns c = tables (c .before .before .before .before .before .before .before .before .before .before .before .before .before .before .before .before .args .message .now) (c .before .before .before .before .before .before .before .before .before .before .before .before .before .before .before .before .args .book .now) (c .before .before .before .before .before .before .before .before .before .before .before .before .before .before .before .before .args .segments) _ (c .before .before .before .before .before .before .before .before .before .before .standard .ensures) _ _ _ _ _ _ (c .before .before .before .before .before .before .write-tree .ensures)
+
+pub probe-write-tree-spec : {M : Type 1} → statement M
+probe-write-tree-spec =
+    tie.close
+    (tie.spec
+    standard-requires
+    write-tree-requires
+    same-length
+    same-length-2
+    same-length-3
+    returns)
