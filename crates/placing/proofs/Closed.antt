@@ -1,4 +1,5 @@
--- Law tree, in closed form: a segment's parent is the last earlier trigger of the group around its line.
+-- Law tree, in closed form: a segment's parent is the last earlier trigger of the group around its line, a
+-- trigger's that of the group around its own group.
 use Prim.Native.Nat.{ℕ, zero, suc, _+_, _-_, _≤_, _<_, pred}
 use native.Mathlib.Omega.{arith}
 use mathlib.Core.Path.{_≡_, refl, sym, ap, ap₂, _∙_, subst}

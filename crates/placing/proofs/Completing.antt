@@ -1,10 +1,11 @@
--- The laws of placing: the walk is isAlive after k homes exactly when some continuation is allowed; it ends at the last line
+-- Laws begins and placement: the walk is alive after k homes exactly when some continuation is allowed, and it ends at the last line
 -- exactly when the homes are allowed.
 use Prim.Native.Nat.{ℕ, zero, suc, _+_, _-_, _≤_, _<_, pred}
 use native.Mathlib.Omega.{arith}
 use mathlib.Core.Path.{_≡_, refl, sym, ap, _∙_, subst}
 use mathlib.Core.List.{List, [], _∷_, _++_, append-assoc, append-nil}
 use mathlib.Core.Bool.{Bool, true, false, true≢false, false≢true, cond, not, _&&_}
+use mathlib.Core.Logic.{_↔_}
 use lib.Dec.{eqb, ltb, leb}
 use lib.ListN.{length, getD, take, drop, length-append}
 use borrow.Author.Tests.{eq-eqb, ne-eqb, eqb-true, eqb-false, ltb-true, ltb-false, lt-ltb, le-ltb, leb-true, leb-false, le-leb}
@@ -200,7 +201,6 @@ module _ (b : Plan) (s : Structured b) where
             same = λ rest. c .same rest ∙ ap (λ (y : List ℕ). homes ks (suc g ∷ y)) (i .same (c .more ++ rest) ∙ ap (homes inner) (sym (append-assoc (i .more) (c .more) rest)));
           }
 
-  -- begins: the walk is isAlive after these homes exactly when some continuation is allowed
   homes-none : (rest : List ℕ) → homes nothing rest ≡ rest
   unfolding homes
   homes-none rest = refl
@@ -223,7 +223,7 @@ module _ (b : Plan) (s : Structured b) where
   walked-append vs [] ys = refl
   walked-append vs (x ∷ xs) ys = walked-append (advanced b vs x) xs ys
 
-  -- what was isAlive at the end was isAlive before
+  -- what is alive at the end was alive before
   pub alive-before : (vs : List Level) (ys : List ℕ) → isAlive (walked b vs ys) ≡ true → isAlive vs ≡ true
   alive-before [] ys h = absurd (false≢true (sym (ap isAlive (dead b s ys)) ∙ h))
   alive-before (v ∷ vs) ys h = refl
@@ -238,7 +238,7 @@ module _ (b : Plan) (s : Structured b) where
   begins-alive hs t =
       alive-before (walked b start hs) (t .0) (ap isAlive (sym (walked-append start hs (t .0)) ∙ walk-placed (hs ++ t .0) (t .1)))
 
-  -- placement: the walk ends at the last line exactly when the homes are allowed
+  -- the last line is one of the message's
   pub last-line : Of b 0 (b .lines)
   last-line =
       let w = s .long in
@@ -293,6 +293,14 @@ module _ (b : Plan) (s : Structured b) where
   allowed-end hs t =
       let g = valid-good b (t .tree) 0 (t .runs) (t .counted) in
       ap (isAtEnd b) (walk-placed hs t) ∙ ends-last (t .tree) (g .0) (g .1)
+
+  -- law begins
+  pub begins : (hs : List ℕ) → (isAlive (walked b start hs) ≡ true) ↔ Begins b hs
+  begins hs = (alive-begins hs, begins-alive hs)
+
+  -- law placement
+  pub placement : (hs : List ℕ) → (isAtEnd b (walked b start hs) ≡ true) ↔ Allowed b hs
+  placement hs = (end-allowed hs, allowed-end hs)
 
   -- an allowed sequence ends on the last line
   pub allowed-last : (hs : List ℕ) → Allowed b hs → (front : List ℕ) × (hs ≡ front ++ (b .lines ∷ []))

@@ -1,8 +1,8 @@
 -- The steps of the functions that find a home.
-use Prim.Native.Nat.{ℕ, zero, suc, _+_, _-_, _≤_, _<_}
+use Prim.Native.Nat.{ℕ, zero, suc, _+_, _*_, _-_, _%_, _≤_, _<_}
 use native.Mathlib.Omega.{arith}
 use native.Mathlib.Numerals.{add-one}
-use mathlib.Core.Path.{_≡_, refl, sym, ap, ap₂, _∙_}
+use mathlib.Core.Path.{_≡_, refl, sym, ap, ap₂, _∙_, subst}
 use mathlib.Core.List.{List, [], _∷_}
 use mathlib.Core.Bool.{Bool, true, false, cond, not, _&&_, _||_}
 use lib.Dec.{eqb}
@@ -10,11 +10,14 @@ use lib.ListN.{length, getD, drop, drop-of-length-le}
 use lib.Seq.{drop-cons}
 use borrow.Author.Tests.{eq-eqb, ne-eqb}
 use Rattle.book.specs.Guide.{Guide}
-use Rattle.reading.specs.Machine.{componentSpan}
+use Rattle.reading.specs.Machine.{seekFrom}
 use Rattle.reading.specs.Part.{bytesIn}
 use Rattle.reading.specs.Tag.{tagAt}
 use Rattle.reading.specs.declared.service.Service.{Service}
-use Rattle.placing.specs.Fitting.{least, spells, isCode, isAnyCode, isSelectedAt, fitsAt}
+use Rattle.reading.specs.declared.span.Span.{Span}
+use Rattle.reading.proofs.Seeking.{Inside, seek-inside}
+use Rattle.placing.specs.Fitting.{least, spells, isCode, isAnyCode, isSelectedAt, fitsAt, Looked}
+use Rattle.placing.specs.declared.home.Selected.{Selected}
 
 -- ---- one code
 
@@ -71,27 +74,48 @@ module _ (b : Guide) where
     unfolding isSelectedAt
     no-selector e h z = sym (simp (eq-eqb (b .selectorElement l) 0 (sym h ∙ z)))
 
-    pub selected : (e c first count : ℕ) (part : List ℕ) (r : Bool) → e ≡ b .selectorElement l → (e ≡ 0 → ⊥) → c ≡ b .selectorComponent l
-        → first ≡ b .firstCode l → count ≡ b .codeCount l → part ≡ bytesIn (componentSpan s bs at e c) bs → r ≡ isAnyCode b first count part
-        → r ≡ isSelectedAt s b bs at l
-    unfolding isSelectedAt
-    selected e c first count part r he n hc hf hk hp hr =
-        hr ∙ ap₂ (λ (x y : ℕ). isAnyCode b x y part) hf hk
-        ∙ ap (isAnyCode b (b .firstCode l) (b .codeCount l)) (hp ∙ ap₂ (λ (x y : ℕ). bytesIn (componentSpan s bs at x y) bs) he hc)
-        ∙ sym (simp (ne-eqb (b .selectorElement l) 0 (λ z. n (he ∙ z))))
+    module _ (x : Selected) (look : Looked s bs at x) (he : x .element ≡ b .selectorElement l) (hc : x .component ≡ b .selectorComponent l) (n : x .element ≡ 0 → ⊥) where
+      pub selected : (first count : ℕ) (r : Bool) → first ≡ b .firstCode l → count ≡ b .codeCount l → r ≡ isAnyCode b first count (bytesIn (x .span) bs) → r ≡ isSelectedAt s b bs at l
+      unfolding isSelectedAt
+      selected first count r hf hk hr =
+          hr ∙ ap₂ (λ (y z : ℕ). isAnyCode b y z (bytesIn (x .span) bs)) hf hk
+          ∙ ap (λ (y : Span). isAnyCode b (b .firstCode l) (b .codeCount l) (bytesIn y bs)) (look .lies n)
+          ∙ ap₂ (λ (y z : ℕ). isAnyCode b (b .firstCode l) (b .codeCount l) (bytesIn (seekFrom s bs (at + 3) y z) bs)) he hc
+          ∙ sym (simp (ne-eqb (b .selectorElement l) 0 (λ z. n (he ∙ z))))
 
-    pub other-tag : (t x : ℕ) → t ≡ b .tag l → x ≡ tagAt bs at → (t ≡ x → ⊥) → false ≡ fitsAt s b bs at l
-    unfolding fitsAt
-    other-tag t x e f n = sym (simp (ne-eqb (b .tag l) (tagAt bs at) (λ z. n (e ∙ z ∙ sym f))))
+      -- it lies within the message
+      pub lies-inside : at + 3 ≤ length bs → Inside (length bs) (x .span)
+      lies-inside h = subst (Inside (length bs)) (sym (look .lies n)) (seek-inside s bs (at + 3) (x .element) (x .component) h)
 
-    pub a-group : (t x k : ℕ) → t ≡ b .tag l → x ≡ tagAt bs at → t ≡ x → k ≡ b .kind l → k ≡ 2 → false ≡ fitsAt s b bs at l
-    unfolding fitsAt
-    a-group t x k e f h i j = sym (simp (eq-eqb (b .tag l) (tagAt bs at) (sym e ∙ h ∙ f), eq-eqb (b .kind l) 2 (sym i ∙ j)))
+  -- the first byte of a tag is its number's remainder by 256
+  pub other-first : (l t x : ℕ) → b .tag l ≡ b .tagByte l 0 + 256 * b .tagByte l 1 + 65536 * b .tagByte l 2 → x ≡ b .tagByte l 0 → x < 256 → (x ≡ t % 256 → ⊥)
+      → false ≡ (eqb (b .tag l) t && not (eqb (b .kind l) 2))
+  other-first l t x e h w n = sym (simp (ne-eqb (b .tag l) t (λ z. n (omega (arith, e)))))
 
-    pub a-segment : (t x k : ℕ) (r : Bool) → t ≡ b .tag l → x ≡ tagAt bs at → t ≡ x → k ≡ b .kind l → (k ≡ 2 → ⊥) → r ≡ isSelectedAt s b bs at l
-        → r ≡ fitsAt s b bs at l
+  pub other-tag : (l t x : ℕ) → x ≡ b .tag l → (x ≡ t → ⊥) → false ≡ (eqb (b .tag l) t && not (eqb (b .kind l) 2))
+  other-tag l t x e n = sym (simp (ne-eqb (b .tag l) t (λ z. n (e ∙ z))))
+
+  pub same-tag : (l t x k : ℕ) → x ≡ b .tag l → x ≡ t → k ≡ b .kind l → not (eqb k 2) ≡ (eqb (b .tag l) t && not (eqb (b .kind l) 2))
+  same-tag l t x k e h i = ap (λ (y : ℕ). not (eqb y 2)) i ∙ sym (simp (eq-eqb (b .tag l) t (sym e ∙ h)))
+
+  -- a line fits that has the tag and is selected
+  module _ (s : Service) (bs : List ℕ) (at l t : ℕ) (tag : t ≡ tagAt bs at) (r : Bool) (has : r ≡ (eqb (b .tag l) t && not (eqb (b .kind l) 2))) where
+    grouped : fitsAt s b bs at l ≡ (r && isSelectedAt s b bs at l)
     unfolding fitsAt
-    a-segment t x k r e f h i j m = m ∙ sym (simp (eq-eqb (b .tag l) (tagAt bs at) (sym e ∙ h ∙ f), ne-eqb (b .kind l) 2 (λ z. j (i ∙ z))))
+    grouped =
+        assoc (eqb (b .tag l) (tagAt bs at)) (not (eqb (b .kind l) 2)) (isSelectedAt s b bs at l)
+        ∙ ap (λ (x : ℕ). (eqb (b .tag l) x && not (eqb (b .kind l) 2)) && isSelectedAt s b bs at l) (sym tag)
+        ∙ ap (λ (x : Bool). x && isSelectedAt s b bs at l) (sym has)
+      where
+        assoc : (x y z : Bool) → (x && (y && z)) ≡ ((x && y) && z)
+        assoc true y z = refl
+        assoc false y z = refl
+
+    pub fits-not : r ≡ false → fitsAt s b bs at l ≡ false
+    fits-not e = grouped ∙ simp e
+
+    pub fits-selected : (q : Bool) → r ≡ true → q ≡ isSelectedAt s b bs at l → fitsAt s b bs at l ≡ q
+    fits-selected q e h = grouped ∙ simp e (sym h)
 
 -- ---- the least line
 

@@ -16,15 +16,20 @@ use Rattle.book.specs.GoodBook.{GoodBook, tagRule, tagByteRule, sameTagRule, sa
 use Rattle.book.specs.View.{Line, numbersFrom, codeValue, lineOf}
 use Rattle.book.proofs.Clauses.{line-kind, line-tag, line-codes, one-home}
 use Rattle.book.proofs.OneHome.{no-common-code}
-use Rattle.book.proofs.ViewedLines.{tag-number}
+use Rattle.book.proofs.ViewedLines.{tag-number, with-selector}
 use Rattle.reading.specs.Service.{GoodService, isTagByte}
-use Rattle.reading.specs.Message.{Component, Tag, Segment, ValidTag}
-use Rattle.reading.specs.WellFormed.{SegmentAt}
+use Rattle.reading.specs.Message.{Component, Tag, Segment, ValidTag, writeComponent}
+use Rattle.reading.specs.WellFormed.{SegmentAt, endOf}
 use Rattle.reading.specs.Component.{valueAt}
-use Rattle.reading.specs.Machine.{sameComponent}
+use Rattle.reading.specs.Machine.{seekFrom, sameComponent}
+use Rattle.reading.specs.Part.{bytesIn}
 use Rattle.reading.specs.Tag.{tagNumber, tagAt}
 use Rattle.reading.specs.declared.service.Service.{Service}
+use Rattle.reading.specs.declared.span.Span.{Span}
+use Rattle.reading.specs.declared.cursor.End.the-variants.{At}
 use Rattle.reading.proofs.Comparing.{same-bytes-refl, same-bytes-true}
+use Rattle.reading.proofs.Cursors.{end-of-segment}
+use Rattle.reading.proofs.Seeking.{span-by-end}
 use Rattle.reading.proofs.Values.{part-is-value}
 use Rattle.reading.proofs.Tags.{tag-of-segment}
 use Rattle.placing.specs.Fitting.{isAmong, hasTag, isSelected, fits, least, homeOf, isAnyCode, isSelectedAt, fitsAt, homeAt}
@@ -109,12 +114,25 @@ module _ (book : List ℕ) (good : GoodBook book) (l : ℕ) (from : 1 ≤ l) (to
   -- ---- fitting, in the bytes and in the abstract
 
   module _ (s : Service) (service : GoodService s) (bs : List ℕ) (at : ℕ) (g : Segment) (i : SegmentAt s bs at g) where
+    -- what lies behind the tag is the component's value, written
+    value-there : (e c : ℕ) → (e ≡ 0 → ⊥) → (c ≡ 0 → ⊥) → bytesIn (seekFrom s bs (at + 3) e c) bs ≡ writeComponent s (valueAt g e c) []
+    value-there e c n m =
+        ap (λ (x : Span). bytesIn x bs) (span-by-end s bs at e c (seekFrom s bs (at + 3) e c) n m (At (endOf s at g)) (end-of-segment s service bs at g i) refl)
+        ∙ part-is-value s service bs at e c g i
+
     selected-same : isSelectedAt s (guideOf book) bs at l ≡ isSelected (lineOf (guideOf book) l) g
     unfolding isSelectedAt
-    selected-same =
-        ap (λ (t : Bool). eqb (guideOf book .selectorElement l) 0 || t)
-        (ap (isAnyCode (guideOf book) (guideOf book .firstCode l) (guideOf book .codeCount l)) (part-is-value s service bs at (guideOf book .selectorElement l) (guideOf book .selectorComponent l) g i)
-        ∙ any-code book good s service (valueAt g (guideOf book .selectorElement l) (guideOf book .selectorComponent l)) (guideOf book .firstCode l) (guideOf book .codeCount l) (line-codes book good l from to))
+    selected-same = go (eqb (guideOf book .selectorElement l) 0) refl
+      where
+        go : (v : Bool) → eqb (guideOf book .selectorElement l) 0 ≡ v
+            → (v || isAnyCode (guideOf book) (guideOf book .firstCode l) (guideOf book .codeCount l) (bytesIn (seekFrom s bs (at + 3) (guideOf book .selectorElement l) (guideOf book .selectorComponent l)) bs))
+            ≡ (v || isAmong (valueAt g (guideOf book .selectorElement l) (guideOf book .selectorComponent l)) (lineOf (guideOf book) l .codes))
+        go true e = refl
+        go false e =
+            let n = eqb-false (guideOf book .selectorElement l) 0 e in
+            let w = with-selector book good l from to (omega arith) in
+            ap (isAnyCode (guideOf book) (guideOf book .firstCode l) (guideOf book .codeCount l)) (value-there (guideOf book .selectorElement l) (guideOf book .selectorComponent l) n (λ z. let y = w .0 in omega arith))
+            ∙ any-code book good s service (valueAt g (guideOf book .selectorElement l) (guideOf book .selectorComponent l)) (guideOf book .firstCode l) (guideOf book .codeCount l) (line-codes book good l from to)
 
     pub fits-same : fitsAt s (guideOf book) bs at l ≡ fits (lineOf (guideOf book) l) g
     unfolding fitsAt fits

@@ -27,7 +27,7 @@ pub refuted : (a : Bool) → (a ≡ true → ⊥) → a ≡ false
 refuted true e = absurd (e refl)
 refuted false e = refl
 
--- nothing is isWanted at line x, where it is of depth d
+-- nothing is wanted at line x, where it is of depth d
 unwanted : (b : Plan) (d x : ℕ) → isWanted b d x ≡ false → b .depth x ≡ d → b .required x ≡ false
 unwanted b d x h e = simp (eq-eqb (b .depth x) d e) at h
 

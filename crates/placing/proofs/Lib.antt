@@ -16,4 +16,5 @@ pub mod Passing
 pub mod Codes
 pub mod Homes
 pub mod Messages
+pub mod Examples
 pub mod OneOutcome

@@ -4,21 +4,24 @@ use native.Mathlib.Omega.{arith}
 use native.Mathlib.Numerals.{add-one}
 use mathlib.Core.Path.{_≡_, refl, sym, ap, ap₂, _∙_}
 use mathlib.Core.List.{List, [], _∷_, _++_, map}
-use mathlib.Core.Bool.{Bool, cond}
+use mathlib.Core.Bool.{Bool, true, false, true≢false, cond}
 use lib.Dec.{eqb}
 use lib.ListN.{length, set}
 use lib.Seq.{sets, length-sets}
 use borrow.Author.Tests.{eq-eqb, ne-eqb}
 use Rattle.book.specs.Guide.{guideOf}
-use Rattle.reading.specs.Machine.{nextSegment}
+use Rattle.reading.specs.Machine.{segmentEnd, foundBy, nextSegment}
 use Rattle.reading.specs.declared.service.Service.{Service}
 use Rattle.reading.specs.declared.span.Span.{Span}
 use Rattle.reading.specs.declared.cursor.Cursor.{Cursor}
+use Rattle.reading.specs.declared.cursor.End.{End}
+use Rattle.reading.specs.declared.cursor.End.the-variants.{At, Nowhere}
 use Rattle.reading.specs.declared.cursor.Found.{Found}
 use Rattle.reading.specs.declared.cursor.Found.the-variants as found
-use Rattle.placing.specs.Plan.{planIn}
+use Rattle.reading.proofs.Ending.{end-within}
+use Rattle.placing.specs.Plan.{Plan, planIn}
 use Rattle.placing.specs.Fitting.{homeAt}
-use Rattle.placing.specs.Walking.{start, walked, isAlive, openLines, StandsFor}
+use Rattle.placing.specs.Walking.{start, walked, isAlive, StandsFor}
 use Rattle.placing.specs.Tree.{rootOnly, parentIn, openedBy, noted, notedParents}
 use Rattle.placing.specs.Passes.{startsThen, startsFrom, homesFrom, firstStop, outcomeOf, testedFrom, tested, entry, startsTable, homesTable, parentsTable}
 use Rattle.placing.specs.declared.walk.Walk.{Walk}
@@ -30,6 +33,18 @@ one-less k n h = omega arith
 
 none-left : (k n : ℕ) → n ≤ k → n - k ≡ 0
 none-left k n h = omega arith
+
+-- a segment that is found has its tag within the message
+pub found-within : (s : Service) (bs : List ℕ) (at : ℕ) (x : Span) (next : Cursor) → found.Segment x next ≡ nextSegment s bs at → at + 3 ≤ length bs
+found-within s bs at x next e = go (segmentEnd s bs at) refl e
+  where
+    isFound : Found → Bool
+    isFound (found.Segment y after) = true
+    isFound found.Nothing = false
+
+    go : (end : End) → segmentEnd s bs at ≡ end → found.Segment x next ≡ foundBy at end → at + 3 ≤ length bs
+    go (At end) i h = let w = end-within s bs at end i in let a = w .behind in let b = w .inside in omega arith
+    go Nowhere i h = absurd (true≢false (ap isFound h))
 
 module _ (s : Service) (bs book : List ℕ) where
   -- ---- the segments that are left, where k of n have been passed
@@ -96,14 +111,14 @@ module _ (s : Service) (bs book : List ℕ) where
       test-homeless z = sym (turn ∙ simp (eq-eqb h 0 z)) ∙ t .same
 
       pub test-on : (moved : Walk) (then : ℕ) (live : Bool) → (h ≡ 0 → ⊥) → ((hs : List ℕ) → StandsFor (planIn book) hs walk → StandsFor (planIn book) (hs ++ (h ∷ [])) moved)
-          → live ≡ isAlive (openLines moved) → then ≡ firstStop stop live (k + 1) → Testing n moved then (k + 1) (next .at)
+          → ((b : Plan) (hs : List ℕ) → StandsFor b hs moved → live ≡ isAlive (walked b start hs)) → then ≡ firstStop stop live (k + 1) → Testing n moved then (k + 1) (next .at)
       test-on moved then live z on l f =
           let stands = on (t .seen) (t .stands) in
           record {
             seen = t .seen ++ (h ∷ []);
             stands = stands;
             same =
-                ap (λ (y : ℕ). From (t .seen ++ (h ∷ [])) y (k + 1) n (next .at)) (f ∙ ap (λ (y : Bool). firstStop stop y (k + 1)) (l ∙ ap isAlive (stands .lines)))
+                ap (λ (y : ℕ). From (t .seen ++ (h ∷ [])) y (k + 1) n (next .at)) (f ∙ ap (λ (y : Bool). firstStop stop y (k + 1)) (l (planIn book) (t .seen ++ (h ∷ [])) stands))
                 ∙ sym (turn ∙ simp (ne-eqb h 0 z)) ∙ t .same;
           }
 

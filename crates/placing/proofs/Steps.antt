@@ -236,26 +236,26 @@ stands-next b hs w r h q e i = record { ready = q; lines = e ∙ ap (λ (vs : Li
     walked-last vs [] = refl
     walked-last vs (x ∷ xs) = walked-last (advanced b vs x) xs
 
-pub alive-high : (w : Walk) → Ready w → (w .height ≡ 0 → ⊥) → isAlive (openLines w) ≡ true
+alive-high : (w : Walk) → Ready w → (w .height ≡ 0 → ⊥) → isAlive (openLines w) ≡ true
 alive-high w q n = go (openLines w) (stack-long w q)
   where
     go : (vs : List Level) → length vs ≡ w .height → isAlive vs ≡ true
     go [] e = absurd (n (sym e))
     go (v ∷ vs) e = refl
 
-pub alive-none : (w : Walk) → Ready w → w .height ≡ 0 → isAlive (openLines w) ≡ false
+alive-none : (w : Walk) → Ready w → w .height ≡ 0 → isAlive (openLines w) ≡ false
 alive-none w q n = go (openLines w) (stack-long w q)
   where
     go : (vs : List Level) → length vs ≡ w .height → isAlive vs ≡ false
     go [] e = refl
     go (v ∷ vs) e = absurd (let z = n in omega arith)
 
-pub alive-is : (w : Walk) → Ready w → not (eqb (w .height) 0) ≡ isAlive (openLines w)
-alive-is w q = go (eqb (w .height) 0) refl
+pub alive-is : (w : Walk) (b : Plan) (hs : List ℕ) → StandsFor b hs w → not (eqb (w .height) 0) ≡ isAlive (walked b start hs)
+alive-is w b hs i = go (eqb (w .height) 0) refl ∙ ap isAlive (i .lines)
   where
     go : (t : Bool) → eqb (w .height) 0 ≡ t → not t ≡ isAlive (openLines w)
-    go true e = sym (alive-none w q (eqb-true (w .height) 0 e))
-    go false e = sym (alive-high w q (eqb-false (w .height) 0 e))
+    go true e = sym (alive-none w (i .ready) (eqb-true (w .height) 0 e))
+    go false e = sym (alive-high w (i .ready) (eqb-false (w .height) 0 e))
 
 -- a maximum is a number of four bytes
 pub maximum-fits : (bs : List ℕ) → ((k : ℕ) → getD bs k 0 < 256) → (l : ℕ) → planIn bs .maximum l < 2 ^ 32

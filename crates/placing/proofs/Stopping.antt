@@ -7,7 +7,7 @@ use mathlib.Core.List.{List, [], _∷_, _++_, append-assoc, append-nil}
 use mathlib.Core.Bool.{Bool, true, false, true≢false, false≢true, cond, not, _&&_}
 use mathlib.Core.Logic.{_↔_, dite}
 use lib.Dec.{eqb}
-use lib.ListN.{length, getD, take, length-append, List·getD-append}
+use lib.ListN.{length, getD, take, drop, take-append-drop, length-append, List·getD-append}
 use lib.Seq.{take-append-le, take-all, getD-append-seam}
 use borrow.Author.Tests.{eq-eqb, ne-eqb, eqb-true, eqb-false}
 use Rattle.placing.specs.Plan.{Plan}
@@ -37,7 +37,7 @@ module _ (b : Plan) (s : Structured b) where
   front-alive xs ys h = alive-before b s (walked b start xs) ys (sym (ap isAlive (walked-append b s start xs ys)) ∙ h)
 
   prefix-alive : (j : ℕ) (hs : List ℕ) → Alive hs true → Alive (take j hs) true
-  prefix-alive j hs h = front-alive (take j hs) (lib.ListN.drop j hs) (ap (λ (xs : List ℕ). isAlive (walked b start xs)) (lib.ListN.take-append-drop j hs) ∙ h)
+  prefix-alive j hs h = front-alive (take j hs) (drop j hs) (ap (λ (xs : List ℕ). isAlive (walked b start xs)) (take-append-drop j hs) ∙ h)
 
   stopped-on : (seen : List ℕ) (h stop : ℕ) → Stopped seen stop → (v : Bool) → Alive (seen ++ (h ∷ [])) v → Stopped (seen ++ (h ∷ [])) (firstStop stop v (suc (length seen)))
   stopped-on seen h stop (never a) true e = never e
@@ -148,12 +148,54 @@ module _ (b : Plan) (s : Structured b) where
     pub front : List ℕ
     pub same : hs ≡ front ++ (b .lines ∷ [])
 
-  -- law placement
-  pub placement-law : (hs : List ℕ) → (placement.Begins b hs × EndsOnLast hs) ↔ Allowed b hs
-  placement-law hs = (to, from)
+  -- the law
+  pub allowed-ends : (hs : List ℕ) → (placement.Begins b hs × EndsOnLast hs) ↔ Allowed b hs
+  allowed-ends hs = (to, from)
     where
       to : placement.Begins b hs × EndsOnLast hs → Allowed b hs
       to (g, e) = subst (Allowed b) (sym (e .same)) (ends-allowed (e .front) (subst (placement.Begins b) (e .same) g))
 
       from : Allowed b hs → placement.Begins b hs × EndsOnLast hs
       from t = let l = allowed-last b s hs t in (([], subst (Allowed b) (sym (append-nil hs)) t), record { front = l .0; same = l .1 })
+
+  -- ---- each answer exactly when
+
+  begins-front : (k : ℕ) (hs : List ℕ) → placement.Begins b hs → placement.Begins b (take k hs)
+  begins-front k hs g =
+      (drop k hs ++ g .0, subst (Allowed b) (ap (λ (xs : List ℕ). xs ++ g .0) (sym (take-append-drop k hs)) ∙ append-assoc (take k hs) (drop k hs) (g .0)) (g .1))
+
+  one-without : (hs : List ℕ) (j k : ℕ) → FirstWithout hs j → FirstWithout hs k → j < k → ⊥
+  one-without hs j k x y h =
+      let a = x .some in let z = x .there in let n = y .before (j - 1) (omega arith) in omega arith
+
+  all-have : (hs : List ℕ) (k : ℕ) → HaveHomes hs → FirstWithout hs k → ⊥
+  all-have hs k all x = let a = x .some in let w = x .within in let z = x .there in let n = all (k - 1) (omega arith) in omega arith
+
+  one-stop : (hs : List ℕ) (j k : ℕ) → placement.Stops b hs j → placement.Stops b hs k → j < k → ⊥
+  one-stop hs j k x y h = x .stops (y .shorter j h)
+
+  same-number : {P : ℕ → Type 0} (j k : ℕ) → ((x y : ℕ) → P x → P y → x < y → ⊥) → P j → P k → j ≡ k
+  same-number j k one p q = dite (decLt j k) (λ h. absurd (one j k p q h)) (λ h. dite (decLt k j) (λ l. absurd (one k j q p l)) (λ l. omega arith))
+
+  -- no two answers can both be true of some homes
+  pub one-meaning : (hs : List ℕ) (x y : Placing) → Means b hs x → Means b hs y → x ≡ y
+  one-meaning hs Begins Begins m n = refl
+  one-meaning hs Begins (NoHome k) m n = absurd (all-have hs k (m .0) n)
+  one-meaning hs Begins (Stops k) m n = absurd (n .1 .stops (begins-front k hs (m .1)))
+  one-meaning hs (NoHome j) Begins m n = absurd (all-have hs j (n .0) m)
+  one-meaning hs (NoHome j) (NoHome k) m n = ap NoHome (same-number {P = FirstWithout hs} j k (one-without hs) m n)
+  one-meaning hs (NoHome j) (Stops k) m n = absurd (all-have hs j (n .0) m)
+  one-meaning hs (Stops j) Begins m n = absurd (m .1 .stops (begins-front j hs (n .1)))
+  one-meaning hs (Stops j) (NoHome k) m n = absurd (all-have hs k (m .0) n)
+  one-meaning hs (Stops j) (Stops k) m n = ap Stops (same-number {P = placement.Stops b hs} j k (one-stop hs) (m .1) (n .1))
+
+  -- so each answer is given exactly when it is true
+  pub test-exactly : (hs : List ℕ) (x : Placing) → (tested b hs ≡ x) ↔ Means b hs x
+  test-exactly hs x = (λ e. subst (Means b hs) e (test-means hs), λ m. one-meaning hs (tested b hs) x (test-means hs) m)
+
+  -- and of homes that end on the last line, as number 7 leaves them: 01's "homes not allowed"
+  pub tested-allowed : (hs : List ℕ) → EndsOnLast hs → (tested b hs ≡ Begins) ↔ (HaveHomes hs × Allowed b hs)
+  tested-allowed hs e = (
+    λ h. let m = test-exactly hs Begins .0 h in (m .0, allowed-ends hs .0 (m .1, e)),
+    λ m. test-exactly hs Begins .1 (m .0, allowed-ends hs .1 (m .1) .0),
+  )

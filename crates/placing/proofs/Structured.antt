@@ -28,7 +28,7 @@ pub record Trigger (b : Plan) (g : ℕ) : Type 0 where
   pub required : b .required (suc g) ≡ true
   pub once : b .maximum (suc g) ≡ 1
 
--- the rules of 01 under "Structure"
+-- what placing needs of 01's rules
 pub record Structured (b : Plan) : Type 0 where
   pub long : 2 ≤ b .lines
   pub first : Frame b 1

@@ -396,7 +396,7 @@ module _ (b : Plan) (s : Structured b) where
   dead [] = walked-nil []
   dead (h ∷ hs) = walked-on [] h hs ∙ ap (λ (x : List Level). walked b x hs) (advanced-dead h) ∙ dead hs
 
-  -- one home, isAlive or not
+  -- one home, alive or not
   data Step (T : Contents) (h : ℕ) : Type 0 where
     on : Put 0 T h (advanced b (levels 0 T) h) → Step T h
     off : advanced b (levels 0 T) h ≡ [] → Step T h
@@ -549,63 +549,3 @@ module _ (b : Plan) (s : Structured b) where
       ∙ walk-good x inner (g .3) (parent-of p x (g .2 .of) (g .1)) (outer ++ (level x (suc (count x ks)) ∷ []))
       (length-append outer (level x (suc (count x ks)) ∷ []) ∙ (let e = g .2 .of .deeper in omega arith)) rest
       ∙ ap (λ (v : List Level). walked b v rest) (append-assoc outer (level x (suc (count x ks)) ∷ []) (levels x inner))
-
-  -- T-13: two lines that may come next have owners of which one encloses the other
-  pub data Encloses : ℕ → ℕ → Type 0 where
-    itself : (p : ℕ) → Encloses p p
-    through : (p g q : ℕ) → Of b p g → Encloses g q → Encloses p q
-
-  -- the owner of the lines D levels down the open instances
-  abbrev ownerAt : ℕ → ℕ → Contents → ℕ
-  ownerAt zero p T = p
-  ownerAt (suc D) p nothing = p
-  ownerAt (suc D) p (segment ks l) = p
-  ownerAt (suc D) p (instance ks g inner) = ownerAt D g inner
-
-  encloses-from : (D p : ℕ) (T : Contents) → Open b p T → Encloses p (ownerAt D p T)
-  encloses-from zero p T o = itself p
-  encloses-from (suc D) p nothing o = itself p
-  encloses-from (suc D) p (segment ks l) o = itself p
-  encloses-from (suc D) p (instance ks g inner) o = through p g (ownerAt D g inner) (o .2 .of) (encloses-from D g inner (o .3))
-
-  nested : (D E p : ℕ) (T : Contents) → Open b p T → D ≤ E → Encloses (ownerAt D p T) (ownerAt E p T)
-  nested zero E p T o h = encloses-from E p T o
-  nested (suc D) zero p T o h = absurd (omega arith)
-  nested (suc D) (suc E) p nothing o h = itself p
-  nested (suc D) (suc E) p (segment ks l) o h = itself p
-  nested (suc D) (suc E) p (instance ks g inner) o h = nested D E g inner (o .3) (omega arith)
-
-  owned : (D p : ℕ) (T : Contents) (t : ℕ) → Open b p T → Parent p → t ≤ b .lines → b .depth t ≡ D + deep b p
-      → NoTrigger t → 0 < t → D < length (levels p T) → canMove b (getD (levels p T) D (level 0 0)) t ≡ true → Of b (ownerAt D p T) t
-  owned zero p T t o q w d n z i m = move-sound p T (lastLine p T) (lastCount T) t (last-of p T q o) w (omega arith) (not-opening p t q n z) m .next .of
-  owned (suc D) p nothing t o q w d n z i m = absurd (omega arith)
-  owned (suc D) p (segment ks l) t o q w d n z i m = absurd (omega arith)
-  owned (suc D) p (instance ks x inner) t o q w d n z i m =
-      let dx = o .2 .of .deeper in
-      owned D x inner t (o .3) (parent-of p x (o .2 .of) (o .1)) w (omega arith) n z (omega arith) m
-
-  pub admits-owned : (T : Contents) (t : ℕ) → Open b 0 T → t ≤ b .lines → NoTrigger t → 0 < t → admits b (levels 0 T) t ≡ true → Of b (ownerAt (b .depth t) 0 T) t
-  unfolding admits
-  admits-owned T t o w n z h =
-      let h1 = right (ltb (b .depth t) (length (levels 0 T))) _ h in
-      owned (b .depth t) 0 T t o tt w (omega arith) n z (ltb-true (b .depth t) (length (levels 0 T)) (left (ltb (b .depth t) (length (levels 0 T))) _ h))
-      (left (canMove b (getD (levels 0 T) (b .depth t) (level 0 0)) t) _ h1)
-
-  -- so where T-13's rule holds of two lines (their owners differ and neither encloses the other), only one of them may come next
-  pub record Apart (t u : ℕ) : Type 0 where
-    pub one : (p q : ℕ) → Of b p t → Of b q u → Encloses p q → ⊥
-    pub two : (p q : ℕ) → Of b p t → Of b q u → Encloses q p → ⊥
-
-  pub one-next : (T : Contents) (t u : ℕ) → Open b 0 T → t ≤ b .lines → u ≤ b .lines → NoTrigger t → NoTrigger u → 0 < t → 0 < u → Apart t u
-      → admits b (levels 0 T) t ≡ true → admits b (levels 0 T) u ≡ true → ⊥
-  one-next T t u o wt wu nt nu zt zu a ht hu = go (leb (b .depth t) (b .depth u)) refl
-    where
-      ot : Of b (ownerAt (b .depth t) 0 T) t
-      ot = admits-owned T t o wt nt zt ht
-
-      ou : Of b (ownerAt (b .depth u) 0 T) u
-      ou = admits-owned T u o wu nu zu hu
-
-      go : (v : Bool) → leb (b .depth t) (b .depth u) ≡ v → ⊥
-      go true e = a .one _ _ ot ou (nested (b .depth t) (b .depth u) 0 T o (leb-true (b .depth t) (b .depth u) e))
-      go false e = a .two _ _ ot ou (nested (b .depth u) (b .depth t) 0 T o (let z = borrow.Author.Tests.leb-false (b .depth t) (b .depth u) e in omega arith))

@@ -1,6 +1,7 @@
 -- A segment's home. 01: "A segment's home is the segment line of its tag whose codes, if it has a selector, include the value
 -- there."
-use Prim.Native.Nat.{ℕ, zero, suc, _+_, _*_}
+use Prim.Native.Nat.{ℕ, zero, suc, _+_}
+use mathlib.Core.Path.{_≡_}
 use mathlib.Core.List.{List, [], _∷_}
 use mathlib.Core.Bool.{Bool, true, false, cond, not, _&&_, _||_}
 use lib.Dec.{eqb}
@@ -9,10 +10,11 @@ use Rattle.book.specs.Guide.{Guide}
 use Rattle.book.specs.View.{Line, lineOf}
 use Rattle.reading.specs.Message.{Component, Tag, Segment}
 use Rattle.reading.specs.Component.{valueAt}
-use Rattle.reading.specs.Machine.{componentSpan, sameComponent}
+use Rattle.reading.specs.Machine.{seekFrom, sameComponent}
 use Rattle.reading.specs.Tag.{tagAt}
 use Rattle.reading.specs.Part.{bytesIn}
 use Rattle.reading.specs.declared.service.Service.{Service}
+use Rattle.placing.specs.declared.home.Selected.{Selected}
 
 -- ---- on the abstract segment
 
@@ -23,7 +25,7 @@ isAmong v (code ∷ codes) = sameComponent v code || isAmong v codes
 abbrev pub hasTag : Tag → List ℕ → Bool
 hasTag t tag = sameComponent (t .first ∷ t .second ∷ t .third ∷ []) tag
 
--- an absent value, being empty, is no code
+-- an absent value, being empty, is no code of a good book
 abbrev pub isSelected : Line → Segment → Bool
 isSelected l g = eqb (l .selectorElement) 0 || isAmong (valueAt g (l .selectorElement) (l .selectorComponent)) (l .codes)
 
@@ -54,10 +56,14 @@ isAnyCode b c (suc count) raw = isCode b c raw || isAnyCode b (suc c) count raw
 unfoldable pub isSelectedAt : Service → Guide → List ℕ → ℕ → ℕ → Bool
 isSelectedAt s b bs at l =
     eqb (b .selectorElement l) 0
-    || isAnyCode b (b .firstCode l) (b .codeCount l) (bytesIn (componentSpan s bs at (b .selectorElement l) (b .selectorComponent l)) bs)
+    || isAnyCode b (b .firstCode l) (b .codeCount l) (bytesIn (seekFrom s bs (at + 3) (b .selectorElement l) (b .selectorComponent l)) bs)
 
 unfoldable pub fitsAt : Service → Guide → List ℕ → ℕ → ℕ → Bool
 fitsAt s b bs at l = eqb (b .tag l) (tagAt bs at) && (not (eqb (b .kind l) 2) && isSelectedAt s b bs at l)
 
 abbrev pub homeAt : Service → Guide → List ℕ → ℕ → ℕ
 homeAt s b bs at = least (fitsAt s b bs at) 1 (b .lines)
+
+-- a component that has been looked up lies where it is said to lie; element 0 is none
+pub record Looked (s : Service) (bs : List ℕ) (at : ℕ) (x : Selected) : Type 0 where
+  pub lies : (x .element ≡ 0 → ⊥) → x .span ≡ seekFrom s bs (at + 3) (x .element) (x .component)

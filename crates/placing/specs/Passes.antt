@@ -62,6 +62,17 @@ testedFrom b seen stop k (h ∷ hs) =
 abbrev pub tested : Plan → List ℕ → Placing
 tested b hs = testedFrom b [] 0 0 hs
 
+-- 01's number and place for each answer
+abbrev pub numberOf : Placing → ℕ
+numberOf Begins = 0
+numberOf (NoHome k) = 10
+numberOf (Stops k) = 11
+
+abbrev pub placeOf : Placing → ℕ
+placeOf Begins = 0
+placeOf (NoHome k) = k
+placeOf (Stops k) = k
+
 -- what each answer says of the homes, 0 being none
 abbrev pub HaveHomes : List ℕ → Type 0
 HaveHomes hs = (j : ℕ) → j < length hs → 0 < getD hs j 0

@@ -75,7 +75,7 @@ size (segment ks l) = suc (size ks)
 size (instance ks g inner) = suc (size ks + size inner)
 
 -- 01: "The tree gives for each segment the trigger's segment number of the innermost instance holding it, a trigger pointing to
--- its parent instance's trigger, and 0 at the root." In front of what follows, where k segments stand before and `up` holds them
+-- its parent instance's trigger, and 0 at the root." In front of what follows; k segments stand before, and `up` is the trigger of the instance that holds these
 unfoldable pub parents : ℕ → ℕ → Contents → List ℕ → List ℕ
 parents up k nothing rest = rest
 parents up k (segment ks l) rest = parents up k ks (up ∷ rest)

@@ -31,7 +31,7 @@ planIn book = planOf (guideOf book)
 abbrev pub station : Plan → ℕ → ℕ
 station b l = l
 
--- how deep a line lies, the message itself at 0
+-- how deep a line lies, the message itself at 0: so the further lines of p have depth `deep b p`
 abbrev pub deep : Plan → ℕ → ℕ
 deep b zero = 0
 deep b (suc l) = suc (b .depth (suc l))

@@ -27,7 +27,7 @@ noted b k trail (h ∷ hs) = parentIn b trail h ∷ noted b (suc k) (openedBy b 
 abbrev pub notedParents : Plan → List ℕ → List ℕ
 notedParents b hs = noted b 0 rootOnly hs
 
--- ---- in closed form: the last earlier trigger of the group around the line
+-- ---- in closed form: the last earlier trigger of the group around the line, for a trigger of the group around its own group
 
 -- the last line before x that lies higher than d, 0 for the message
 unfoldable pub climb : Plan → ℕ → ℕ → ℕ

@@ -14,7 +14,7 @@ use Rattle.placing.specs.declared.walk.Walk.{Walk}
 abbrev pub level : ℕ → ℕ → Level
 level l n = record { line = l; count = n }
 
--- the message itself, open once
+-- before the first home: line 0 stands where the lines of depth 0 will
 abbrev pub start : List Level
 start = level 0 1 ∷ []
 
@@ -40,12 +40,12 @@ isPlaceable b l = ltb 0 l && (leb l (b .lines) && (not (b .group l) && ltb (b .d
 abbrev pub isWanted : Plan → ℕ → ℕ → Bool
 isWanted b d x = eqb (b .depth x) d && b .required x
 
--- of so many lines from x on, those that belong to an instance with lines of depth d: none is required
+-- of so many lines from x on, as far as they belong to an instance with lines of depth d: none of depth d is required
 unfoldable pub isClear : Plan → ℕ → ℕ → ℕ → Bool
 isClear b d x zero = true
 isClear b d x (suc n) = cond (ltb (b .depth x) d) true (not (isWanted b d x) && isClear b d (suc x) n)
 
--- so many lines from x on all belong to an instance with lines of depth d, and none of those is required
+-- so many lines from x on all belong to an instance with lines of depth d, and none of depth d is required
 unfoldable pub isPassed : Plan → ℕ → ℕ → ℕ → Bool
 isPassed b d x zero = true
 isPassed b d x (suc n) = not (ltb (b .depth x) d) && (not (isWanted b d x) && isPassed b d (suc x) n)

@@ -1,15 +1,18 @@
 // A segment's home: the least line that it fits. Every line is tried; only `find_home` knows that.
 ghost use mathlib.Core.Path.{_≡_};
 ghost use Prim.Native.Nat.{_+_, _≤_, _^_};
+ghost use mathlib.Core.Bool.{not, _&&_};
+ghost use lib.Dec.{eqb};
+ghost use lib.ListN.{length};
 ghost use Rattle.book.specs.Guide.{guideOf};
-ghost use Rattle.reading.specs.Tag.{tagAt};
-ghost use Rattle.placing.specs.Fitting.{isCode, isAnyCode, isSelectedAt, fitsAt, homeAt};
+ghost use Rattle.placing.specs.Fitting.{isCode, isAnyCode, isSelectedAt, homeAt, Looked};
 use book::layout;
 use reading::lookup;
 use reading::service::Service;
+use reading::span::Span;
 use reading::tag;
 
-// Is this part of a message, as it is written, the code's value? No byte of a code is released.
+// Is this part of a message, as it is written, the code's value? No byte of a good code is ever released.
 fn is_code(book: &[u8], code: u32, part: &[u8]) -> bool
     ensures { λ r. ⌜ r ≡ isCode (guideOf (now (book .entry))) code (now (part .entry)) ⌝ }
 {
@@ -43,46 +46,103 @@ fn is_any_code(book: &[u8], first: u32, count: u32, part: &[u8]) -> bool
     false
 }
 
-fn is_selected(service: Service, message: &[u8], at: usize, book: &[u8], line: u32) -> bool
-    ensures { λ r. ⌜ r ≡ isSelectedAt service (guideOf (now (book .entry))) (now (message .entry)) at line ⌝ }
-{
-    let element = layout::selector_element(book, line);
-    if element == 0 {
-        return true;
-    }
-    let component = layout::selector_component(book, line);
-    let first = layout::first_code(book, line);
-    let count = layout::code_count(book, line);
-    let part = lookup::find_component(service, message, at, element as usize, component as usize);
-    is_any_code(book, first, count, part)
+// A component that has been looked up, and where it lies. Element 0 is none.
+pub struct Selected {
+    pub element: u32,
+    pub component: u32,
+    pub span: Span,
 }
 
-// Does the segment that starts at an offset, with this tag, fit the line?
-fn fits(service: Service, message: &[u8], at: usize, tag: u32, book: &[u8], line: u32) -> bool
-    requires { ⌜ tag ≡ tagAt (now message) at ⌝ }
-    ensures { λ r. ⌜ r ≡ fitsAt service (guideOf (now (book .entry))) (now (message .entry)) at line ⌝ }
+// The component that the line's selector names. Lines of one tag mostly name the same, so the one before is kept.
+fn select(
+    service: Service,
+    message: &[u8],
+    at: usize,
+    book: &[u8],
+    line: u32,
+    before: Selected,
+) -> Selected
+    requires { ⌜ (at + 3 ≤ length (now message)) × Looked service (now message) at before ⌝ }
+    ensures { λ r. ⌜ Looked service (now (message .entry)) at r × ((r .element ≡ guideOf (now (book .entry)) .selectorElement line) × (r .component ≡ guideOf (now (book .entry)) .selectorComponent line)) ⌝ }
 {
+    let element = layout::selector_element(book, line);
+    let component = layout::selector_component(book, line);
+    if element == before.element {
+        if component == before.component {
+            return before;
+        }
+    }
+    let span = lookup::seek_from(
+        service,
+        message,
+        at + 3,
+        element as usize,
+        component as usize,
+    );
+    Selected {
+        element,
+        component,
+        span,
+    }
+}
+
+// Is the component's value, as it is written, among the line's codes? Every segment is selected where there is no selector.
+fn is_selected(
+    service: Service,
+    message: &[u8],
+    at: usize,
+    book: &[u8],
+    line: u32,
+    selected: Selected,
+) -> bool
+    requires { ⌜ (at + 3 ≤ length (now message)) × Looked service (now message) at selected × ((selected .element ≡ guideOf (now book) .selectorElement line) × (selected .component ≡ guideOf (now book) .selectorComponent line)) ⌝ }
+    ensures { λ r. ⌜ r ≡ isSelectedAt service (guideOf (now (book .entry))) (now (message .entry)) at line ⌝ }
+{
+    if selected.element == 0 {
+        return true;
+    }
+    let first = layout::first_code(book, line);
+    let count = layout::code_count(book, line);
+    let start = selected.span.start;
+    let end = selected.span.end;
+    is_any_code(book, first, count, &message[start..end])
+}
+
+// Is it a segment line of this tag? The first byte of its tag says no to most.
+fn has_tag(book: &[u8], line: u32, tag: u32) -> bool
+    ensures { λ r. ⌜ r ≡ (eqb (guideOf (now (book .entry)) .tag line) tag && not (eqb (guideOf (now (book .entry)) .kind line) 2)) ⌝ }
+{
+    if layout::tag_byte(book, line, 0) != tag % 256 {
+        return false;
+    }
     if layout::tag(book, line) != tag {
         return false;
     }
-    if layout::kind(book, line) == 2 {
-        return false;
-    }
-    is_selected(service, message, at, book, line)
+    layout::kind(book, line) != 2
 }
 
-// The home of the segment that starts at an offset; 0 if it has none.
+// The home of the segment that starts at an offset, with three bytes at least; 0 if it has none.
 pub fn find_home(service: Service, message: &[u8], at: usize, book: &[u8]) -> u32
+    requires { ⌜ at + 3 ≤ length (now message) ⌝ }
     ensures { λ r. ⌜ r ≡ homeAt service (guideOf (now (book .entry))) (now (message .entry)) at ⌝ }
 {
     let tag = tag::tag_at(message, at);
     let lines = layout::lines(book);
+    let mut selected = Selected {
+        element: 0,
+        component: 0,
+        span: Span::empty_at(at),
+    };
     let mut line: u32 = 1;
     while line <= lines {
-        if fits(service, message, at, tag, book, line) {
-            return line;
-        }
+        let tried = line;
         line += 1;
+        if has_tag(book, tried, tag) {
+            selected = select(service, message, at, book, tried, selected);
+            if is_selected(service, message, at, book, tried, selected) {
+                return tried;
+            }
+        }
     }
     0
 }

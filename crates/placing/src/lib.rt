@@ -5,7 +5,6 @@ mod passes;
 mod tree;
 mod walk;
 
-pub use home::find_home;
 pub use passes::Placing;
 pub use passes::test_placing;
 pub use passes::write_tree;

@@ -13,8 +13,8 @@ use reading::cursor::Cursor;
 use reading::cursor::Found;
 use reading::service::Service;
 
-// What the test pass finds: the homes begin an allowed sequence; the first segment without a home; or the smallest k whose first
-// k homes begin no allowed sequence.
+// What the test pass finds: the homes begin an allowed sequence; 10, the first segment without a home; or 11, the smallest k whose
+// first k homes begin no allowed sequence.
 pub enum Placing {
     Begins,
     NoHome(u32),

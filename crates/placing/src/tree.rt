@@ -19,7 +19,7 @@ impl Trail {
     }
 }
 
-// The trigger's number of the instance that holds a segment of this home.
+// The segment number of the trigger whose instance holds a segment of this home; 0 at the root.
 pub fn parent_of(book: &[u8], trail: Trail, home: u32) -> u32
     requires { ⌜ length (trail .triggers) ≡ 8 ⌝ }
     ensures { λ r. ⌜ r ≡ parentIn (planIn (now (book .entry))) (trail .triggers) home ⌝ }

@@ -5,7 +5,7 @@ ghost use mathlib.Core.Bool.{true, cond};
 ghost use Prim.Native.Nat.{ℕ, suc, _+_, _-_, _≤_, _<_, _^_};
 ghost use lib.ListN.{take, drop};
 ghost use Rattle.placing.specs.Plan.{Plan, planIn};
-ghost use Rattle.placing.specs.Walking.{isTrigger, target, isPlaceable, isWanted, isClear, isPassed, canClose, canCloseAll, canMove, admits, raised, stacked, entered, openLines, isAlive, Ready, StandsFor};
+ghost use Rattle.placing.specs.Walking.{isTrigger, target, isPlaceable, isWanted, isClear, isPassed, canClose, canCloseAll, canMove, admits, raised, stacked, entered, walked, start, isAlive, openLines, Ready, StandsFor};
 use book::layout;
 
 // An open line and how often it has come in its parent's instance.
@@ -63,7 +63,7 @@ pub fn target_depth(book: &[u8], line: u32) -> usize
     depth_of(book, target_of(book, line))
 }
 
-// How many depths a line's place may have: a trigger needs one more below it.
+// How many depths a line's place may have: a group needs one more below it, for its trigger.
 fn depths_for(opens: bool) -> usize
     ensures { λ r. ⌜ r ≡ cond opens 7 8 ⌝ }
 {
@@ -99,7 +99,7 @@ fn is_wanted(book: &[u8], depth: usize, line: u32) -> bool
     layout::required(book, line) == 1
 }
 
-// Is no line required, from the first on to the end of the instance that has lines of this depth?
+// Is no line of this depth required, from the first on to the end of the instance that has such lines?
 fn is_clear(book: &[u8], depth: usize, first: u32) -> bool
     ensures { λ r. ⌜ r ≡ isClear (planIn (now (book .entry))) depth first (suc (planIn (now (book .entry)) .lines) - first) ⌝ }
 {
@@ -117,7 +117,7 @@ fn is_clear(book: &[u8], depth: usize, first: u32) -> bool
     true
 }
 
-// Do the lines from the first up to the end all belong to one instance with lines of this depth, none of those required?
+// Do the lines from the first up to the end all belong to one instance with lines of this depth, none of that depth required?
 fn is_passed(book: &[u8], depth: usize, first: u32, end: u32) -> bool
     ensures { λ r. ⌜ r ≡ isPassed (planIn (now (book .entry))) depth first (end - first) ⌝ }
 {
@@ -218,8 +218,7 @@ impl Walk {
 
     // Has no home been refused?
     pub fn is_alive(self) -> bool
-        requires { ⌜ Ready self ⌝ }
-        ensures { λ r. ⌜ r ≡ isAlive (openLines self) ⌝ }
+        ensures { λ r. ⌜ ((b : Plan) (hs : List ℕ) → StandsFor b hs self → r ≡ isAlive (walked b start hs)) ⌝ }
     {
         self.height != 0
     }

@@ -15,6 +15,7 @@ use Rattle.reading.proofs.span.Span.empty_at.Reads as empty-at
 use Rattle.reading.proofs.cursor.segment_end.Reads as segment-end
 use Rattle.reading.proofs.cursor.Cursor.first.Reads as first
 use Rattle.reading.proofs.cursor.Cursor.next_segment.Reads as next-segment
+use Rattle.reading.proofs.lookup.seek_from.Reads as seek-from
 use Rattle.reading.proofs.lookup.component_span.Reads as component-span
 use Rattle.reading.proofs.lookup.find_component.Reads as find-component
 use Rattle.reading.proofs.compare.same_component.Reads as same-component
@@ -65,6 +66,9 @@ one-first κs a r q x y m n = λ i. record { at = (m ∙ sym n) i }
 
 pub one-next-segment : One next-segment.Post
 one-next-segment κs a r q x y m n = m ∙ sym n
+
+pub one-seek-from : One seek-from.Post
+one-seek-from κs a r q x y m n = m ∙ sym n
 
 pub one-component-span : One component-span.Post
 one-component-span κs a r q x y m n = m ∙ sym n

@@ -2,7 +2,7 @@
 use Prim.Native.Nat.{ℕ, suc, _+_, _≤_, _<_}
 use native.Mathlib.Omega.{arith}
 use native.Mathlib.Numerals.{add-one}
-use mathlib.Core.Path.{_≡_, refl, sym, ap, _∙_}
+use mathlib.Core.Path.{_≡_, refl, sym, ap, ap₂, _∙_, subst}
 use mathlib.Core.List.{List, [], _∷_}
 use mathlib.Core.Bool.{Bool, true, false, _&&_}
 use lib.Dec.{eqb}
@@ -10,39 +10,16 @@ use lib.ListN.{length, getD, drop, drop-of-length-le, length-drop}
 use lib.Seq.{drop-cons}
 use borrow.Author.Tests.{eq-eqb, ne-eqb}
 use Rattle.reading.specs.Component.{span}
-use Rattle.reading.specs.Machine.{pick, kindOf, seek, isHere, endsComponent, passed, sought, goOn, seekOn, seekFrom, spanBy, componentSpan, segmentEnd}
+use Rattle.reading.specs.Machine.{Seek, Sought, On, Ends, pick, kindOf, seek, isHere, endsComponent, passed, sought, goOn, seekOn, seekFrom, spanBy, componentSpan, segmentEnd}
 use Rattle.reading.specs.declared.service.Service.{Service}
 use Rattle.reading.specs.declared.span.Span.{Span}
 use Rattle.reading.specs.declared.bytes.Kind.{Kind}
 use Rattle.reading.specs.declared.bytes.Kind.the-variants.{Component, Element, Terminator, Release, Plain, Other}
 use Rattle.reading.specs.declared.cursor.End.{End}
 use Rattle.reading.specs.declared.cursor.End.the-variants.{At, Nowhere}
-use Rattle.reading.specs.declared.lookup.Seek.{Seek}
-use Rattle.reading.specs.declared.lookup.Sought.{Sought}
-use Rattle.reading.specs.declared.lookup.Sought.the-variants.{On, Ends}
 use Rattle.reading.proofs.Ending.{end-within}
 
--- ---- what a byte makes of a search, and a search of a span, once the tests are known
-
-module _ (e c : ℕ) (k : Seek) (at : ℕ) (kind : Kind) where
-  -- the next byte is a released one no more
-  abbrev freed : Seek
-  freed = seek (k .element) (k .component) (k .start) false
-
-  abbrev unreleased : Bool → Sought
-  unreleased ends = pick ends (Ends (span (k .start) at)) (passed k at kind)
-
-  abbrev by-release : Bool → Sought
-  by-release released = pick released (On freed) (unreleased (endsComponent kind && isHere k e c))
-
-  pub sought-released : (next : Seek) → k .released ≡ true → next ≡ freed → On next ≡ sought e c k at kind
-  sought-released next r h = ap On h ∙ sym (ap by-release r)
-
-  pub sought-here : k .released ≡ false → endsComponent kind && isHere k e c ≡ true → Ends (span (k .start) at) ≡ sought e c k at kind
-  sought-here r h = sym (ap by-release r ∙ ap unreleased h)
-
-  pub sought-passed : (next : Sought) → k .released ≡ false → endsComponent kind && isHere k e c ≡ false → next ≡ passed k at kind → next ≡ sought e c k at kind
-  sought-passed next r h p = p ∙ sym (ap by-release r ∙ ap unreleased h)
+-- ---- what a search makes of a span, once the tests are known
 
 module _ (s : Service) (bs : List ℕ) (at e c : ℕ) where
   abbrev at-end : Span
@@ -103,33 +80,26 @@ keeps e c at k kind h =
 -- ---- turn by turn
 
 pub record Seeking (s : Service) (bs : List ℕ) (from e c : ℕ) (k : Seek) (at : ℕ) : Type 0 where
-  pub within : at ≤ length bs
   pub kept : Kept at k
   pub same : seekOn s e c k at (drop at bs) ≡ seekFrom s bs from e c
 
 module _ (s : Service) (bs : List ℕ) (from e c : ℕ) where
-  pub seeking-begin : from ≤ length bs → Seeking s bs from e c (seek 0 0 from false) from
-  seeking-begin h =
-      record {
-        within = h;
-        kept = record { element-few = omega arith; component-few = omega arith; started = omega arith };
-        same = refl;
-      }
+  pub seeking-begin : Seeking s bs from e c (seek 0 0 from false) from
+  seeking-begin = record { kept = record { element-few = omega arith; component-few = omega arith; started = omega arith }; same = refl }
 
   seeking-turn : (k : Seek) (at : ℕ) (kind : Kind) (r : Sought) → at < length bs → Seeking s bs from e c k at → kind ≡ kindOf s (getD bs at 0) → r ≡ sought e c k at kind
       → seekFrom s bs from e c ≡ goOn r (λ next. seekOn s e c next (at + 1) (drop (at + 1) bs))
   unfolding seekOn
   seeking-turn k at kind r h i ek er = sym (i .same) ∙ rw (drop-cons bs at 0 h, er, ek, add-one)
 
-  pub seeking-lies : (k : Seek) (at : ℕ) (kind : Kind) (x : Span) → at < length bs → Seeking s bs from e c k at → kind ≡ kindOf s (getD bs at 0)
+  seeking-lies : (k : Seek) (at : ℕ) (kind : Kind) (x : Span) → at < length bs → Seeking s bs from e c k at → kind ≡ kindOf s (getD bs at 0)
       → Ends x ≡ sought e c k at kind → x ≡ seekFrom s bs from e c
   seeking-lies k at kind x h i ek er = sym (seeking-turn k at kind (Ends x) h i ek er)
 
-  pub seeking-on : (k next : Seek) (at : ℕ) (kind : Kind) → at < length bs → Seeking s bs from e c k at → kind ≡ kindOf s (getD bs at 0)
+  seeking-on : (k next : Seek) (at : ℕ) (kind : Kind) → at < length bs → Seeking s bs from e c k at → kind ≡ kindOf s (getD bs at 0)
       → On next ≡ sought e c k at kind → Seeking s bs from e c next (at + 1)
   seeking-on k next at kind h i ek er =
       record {
-        within = omega arith;
         kept = rw (← er) at (keeps e c at k kind (i .kept));
         same = sym (seeking-turn k at kind (On next) h i ek er);
       }
@@ -137,6 +107,55 @@ module _ (s : Service) (bs : List ℕ) (from e c : ℕ) where
   pub seeking-out : (k : Seek) (at : ℕ) → length bs ≤ at → Seeking s bs from e c k at → span at at ≡ seekFrom s bs from e c
   unfolding seekOn
   seeking-out k at h i = sym (ap (seekOn s e c k at) (drop-of-length-le bs h)) ∙ i .same
+
+  -- ---- one byte of a known kind, where the component that is being read starts at `st`
+
+  module _ (ea ca st at : ℕ) (kind : Kind) (h : at < length bs) (ek : kind ≡ kindOf s (getD bs at 0)) where
+    pub seek-released : (released : Bool) → released ≡ true → Seeking s bs from e c (seek ea ca st released) at → Seeking s bs from e c (seek ea ca st false) (at + 1)
+    seek-released released was i =
+        seeking-on (seek ea ca st true) (seek ea ca st false) at kind h (subst (λ (r : Bool). Seeking s bs from e c (seek ea ca st r) at) was i) ek refl
+
+    module _ (released : Bool) (free : released ≡ false) (k : Seeking s bs from e c (seek ea ca st released) at) where
+      i : Seeking s bs from e c (seek ea ca st false) at
+      i = subst (λ (r : Bool). Seeking s bs from e c (seek ea ca st r) at) free k
+
+      -- and not released it stays
+      still-free : (x y z : ℕ) → Seeking s bs from e c (seek x y z false) (at + 1) → Seeking s bs from e c (seek x y z released) (at + 1)
+      still-free x y z = subst (λ (r : Bool). Seeking s bs from e c (seek x y z r) (at + 1)) (sym free)
+
+      passing : (known : Kind) → kind ≡ known → (endsComponent known && isHere (seek ea ca st false) e c) ≡ false
+          → sought e c (seek ea ca st false) at kind ≡ passed (seek ea ca st false) at known
+      passing known is n =
+          ap (sought e c (seek ea ca st false) at) is ∙ ap (λ (t : Bool). pick t (Ends (span st at)) (passed (seek ea ca st false) at known)) n
+
+      -- the next one, in the same element or in the next
+      pub seek-component : kind ≡ Component → (eqb ea e && eqb ca c) ≡ false → Seeking s bs from e c (seek ea (ca + 1) (at + 1) released) (at + 1)
+      unfolding isHere
+      seek-component is n = still-free ea (ca + 1) (at + 1) (seeking-on (seek ea ca st false) (seek ea (ca + 1) (at + 1) false) at kind h i ek (sym (passing Component is n)))
+
+      pub seek-element : kind ≡ Element → (eqb ea e && eqb ca c) ≡ false → Seeking s bs from e c (seek (ea + 1) 1 (at + 1) released) (at + 1)
+      unfolding isHere
+      seek-element is n = still-free (ea + 1) 1 (at + 1) (seeking-on (seek ea ca st false) (seek (ea + 1) 1 (at + 1) false) at kind h i ek (sym (passing Element is n)))
+
+      pub seek-release : kind ≡ Release → Seeking s bs from e c (seek ea ca st true) (at + 1)
+      seek-release is = seeking-on (seek ea ca st false) (seek ea ca st true) at kind h i ek (sym (passing Release is refl))
+
+      pub seek-plain : kind ≡ Plain → Seeking s bs from e c (seek ea ca st released) (at + 1)
+      seek-plain is = still-free ea ca st (seeking-on (seek ea ca st false) (seek ea ca st false) at kind h i ek (sym (passing Plain is refl)))
+
+      pub seek-other : kind ≡ Other → Seeking s bs from e c (seek ea ca st released) (at + 1)
+      seek-other is = still-free ea ca st (seeking-on (seek ea ca st false) (seek ea ca st false) at kind h i ek (sym (passing Other is refl)))
+
+      -- the one that is sought ends; and at the terminator an absent one lies
+      pub seek-found : (known : Kind) → kind ≡ known → endsComponent known ≡ true → (eqb ea e && eqb ca c) ≡ true → span st at ≡ seekFrom s bs from e c
+      unfolding isHere
+      seek-found known is ends here =
+          seeking-lies (seek ea ca st false) at kind (span st at) h i ek
+          (sym (ap (sought e c (seek ea ca st false) at) is ∙ ap₂ (λ (t u : Bool). pick (t && u) (Ends (span st at)) (passed (seek ea ca st false) at known)) ends here))
+
+      pub seek-absent : (x : Span) → kind ≡ Terminator → (eqb ea e && eqb ca c) ≡ false → x ≡ span at at → x ≡ seekFrom s bs from e c
+      unfolding isHere
+      seek-absent x is n y = y ∙ seeking-lies (seek ea ca st false) at kind (span at at) h i ek (sym (passing Terminator is n))
 
 -- ---- a component lies within the message
 
@@ -154,6 +173,12 @@ seek-on-inside s e c k at (b ∷ bs) h = go (sought e c k at (kindOf s b)) (keep
     go (On next) h further = let w = further next h in record { ordered = w .ordered; within = let x = w .within in omega arith }
     go (Ends x) h further = record { ordered = h .0; within = let y = h .1 in omega arith }
 
+-- behind a tag that ends within the message
+pub seek-inside : (s : Service) (bs : List ℕ) (from e c : ℕ) → from ≤ length bs → Inside (length bs) (seekFrom s bs from e c)
+seek-inside s bs from e c h =
+    let i = seek-on-inside s e c (seek 0 0 from false) from (drop from bs) (record { element-few = omega arith; component-few = omega arith; started = omega arith }) in
+    record { ordered = i .ordered; within = let x = i .within in omega (arith, length-drop from bs) }
+
 pub span-inside : (s : Service) (bs : List ℕ) (at e c : ℕ) → Inside (length bs) (componentSpan s bs at e c)
 span-inside s bs at e c = zero-element (eqb e 0)
   where
@@ -163,8 +188,7 @@ span-inside s bs at e c = zero-element (eqb e 0)
     by-end : (x : End) → segmentEnd s bs at ≡ x → Inside (length bs) (spanBy s bs at e c x)
     by-end (At end) h =
         let w = end-within s bs at end h in
-        let i = seek-on-inside s e c (seek 0 0 (at + 3) false) (at + 3) (drop (at + 3) bs) (record { element-few = omega arith; component-few = omega arith; started = omega arith }) in
-        record { ordered = i .ordered; within = let x = i .within in let y = w .behind in let z = w .inside in omega (arith, length-drop (at + 3) bs) }
+        seek-inside s bs (at + 3) e c (let y = w .behind in let z = w .inside in omega arith)
     by-end Nowhere h = outside
 
     zero-component : (t : Bool) → Inside (length bs) (by-component s bs at e c t)

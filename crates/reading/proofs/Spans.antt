@@ -14,13 +14,11 @@ use Rattle.reading.specs.Message.{released, ValidComponent, ValidElement
 use Rattle.reading.specs.Message as message
 use Rattle.reading.specs.WellFormed.{SegmentAt, NoSegmentAt, endOf}
 use Rattle.reading.specs.Component.{ComponentPlace, nowhere, Lies, in-segment, no-segment, placeIn, placeInComponents, placeInElements, span, spanOf}
-use Rattle.reading.specs.Machine.{pick, kindOf, seek, isHere, sought, goOn, seekOn, spanBy, componentSpan}
+use Rattle.reading.specs.Machine.{Seek, Sought, pick, kindOf, seek, isHere, sought, goOn, seekOn, spanBy, componentSpan}
 use Rattle.reading.specs.declared.service.Service.{Service}
 use Rattle.reading.specs.declared.span.Span.{Span}
 use Rattle.reading.specs.declared.bytes.Kind.{Kind}
 use Rattle.reading.specs.declared.bytes.Kind.the-variants.{Component, Element, Terminator, Release, Plain, Other}
-use Rattle.reading.specs.declared.lookup.Seek.{Seek}
-use Rattle.reading.specs.declared.lookup.Sought.{Sought}
 use Rattle.reading.proofs.Services.{Seen, see, kind-release, kind-component, kind-element, kind-terminator}
 use Rattle.reading.proofs.Services.Seen.{component, element, terminator, release, plain, other}
 use Rattle.reading.proofs.Rendering.{component-long, element-long}

@@ -20,9 +20,6 @@ use Rattle.reading.specs.declared.cursor.End.{End}
 use Rattle.reading.specs.declared.cursor.End.the-variants.{At, Nowhere}
 use Rattle.reading.specs.declared.cursor.Found.{Found}
 use Rattle.reading.specs.declared.cursor.Found.the-variants.{Segment, Nothing}
-use Rattle.reading.specs.declared.lookup.Seek.{Seek}
-use Rattle.reading.specs.declared.lookup.Sought.{Sought}
-use Rattle.reading.specs.declared.lookup.Sought.the-variants.{On, Ends}
 
 -- ---- a byte
 
@@ -148,6 +145,19 @@ abbrev pub nextSegment : Service → List ℕ → ℕ → Found
 nextSegment s bs at = foundBy at (segmentEnd s bs at)
 
 -- ---- a component: a search through a segment
+
+-- where a search stands: the numbers of the element and of the component that are being read, where that component starts, and
+-- whether the next byte is released
+pub record Seek : Type 0 where
+  pub element : ℕ
+  pub component : ℕ
+  pub start : ℕ
+  pub released : Bool
+
+-- what a byte makes of it
+pub data Sought : Type 0 where
+  On : Seek → Sought
+  Ends : Span → Sought
 
 abbrev pub seek : ℕ → ℕ → ℕ → Bool → Seek
 seek e c start r = record { element = e; component = c; start = start; released = r }

@@ -5,7 +5,7 @@ use native.Mathlib.Omega.{arith}
 use mathlib.Core.Path.{sym, _∙_}
 use borrow.Author.Needs.{needs}
 use Rattle.placing.specs.Plan.{planIn}
-use Rattle.placing.proofs.Passing.{Testing, test-begin, test-homeless, test-on, test-nothing, test-end}
+use Rattle.placing.proofs.Passing.{found-within, Testing, test-begin, test-homeless, test-on, test-nothing, test-end}
 use Rattle.placing.proofs.passes.test_placing.Statement.{statement}
 use Rattle.placing.proofs.passes.test_placing.Tie as tie
 
@@ -31,7 +31,7 @@ enum-known-next : tie.Need-enum-known-next Inv-loop μ-loop
 enum-known-next c = search needs
 
 find-home-requires : tie.Need-find-home-requires Inv-loop μ-loop
-find-home-requires c κs = search needs
+find-home-requires c κs = found-within (c .before .before .before .before .before .before .before .before .before .before .args .service) (c .before .before .before .before .before .before .before .before .before .before .args .message .now) (c .before .before .before .before .before .loop .cursor .at) _ _ (sym (c .before .next .given .1) ∙ (c .before .before .before .next-segment .ensures))
 
 add-place : tie.Need-add-place Inv-loop μ-loop
 add-place c = omega (arith, (c .before .before .before .before .before .loop-test .taken))
@@ -43,7 +43,7 @@ advance-requires : tie.Need-advance-requires Inv-loop μ-loop
 advance-requires c κs = (c .before .before .before .before .before .before .before .loop .inv .stands .ready)
 
 is-alive-requires : tie.Need-is-alive-requires Inv-loop μ-loop
-is-alive-requires c κs = (c .advance .ensures .0)
+is-alive-requires c κs = search needs
 
 first-stop-requires : tie.Need-first-stop-requires Inv-loop μ-loop
 first-stop-requires c κs = search needs

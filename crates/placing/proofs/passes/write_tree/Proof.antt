@@ -3,7 +3,7 @@ use Prim.Native.Nat.{_-_}
 use native.Mathlib.Omega.{arith}
 use mathlib.Core.Path.{sym, _∙_}
 use borrow.Author.Needs.{needs}
-use Rattle.placing.proofs.Passing.{Writing, write-begin, write-on, write-last, write-end, starts-long, homes-long, parents-long}
+use Rattle.placing.proofs.Passing.{found-within, Writing, write-begin, write-on, write-last, write-end, starts-long, homes-long, parents-long}
 use Rattle.placing.proofs.passes.write_tree.Statement.{statement}
 use Rattle.placing.proofs.passes.write_tree.Tie as tie
 
@@ -29,7 +29,7 @@ enum-known-next : tie.Need-enum-known-next Inv-loop μ-loop
 enum-known-next c = search needs
 
 find-home-requires : tie.Need-find-home-requires Inv-loop μ-loop
-find-home-requires c κs = search needs
+find-home-requires c κs = found-within (c .before .before .before .before .before .before .before .before .before .before .before .before .before .args .service) (c .before .before .before .before .before .before .before .before .before .before .before .before .before .args .message .now) (c .before .before .before .before .before .loop .cursor .at) _ _ (sym (c .before .next .given .1) ∙ (c .before .before .before .next-segment .ensures))
 
 entry-of-requires : tie.Need-entry-of-requires Inv-loop μ-loop
 entry-of-requires c κs = search needs

@@ -26,7 +26,7 @@ add-seek-from : tie.Need-add-seek-from
 add-seek-from c = let w = end-within _ _ _ _ (sym (c .before .before .segment-end .ensures) ∙ (c .enum-told .given .1)) in let a = w .behind in let b = w .inside in omega arith
 
 seek-from-requires : tie.Need-seek-from-requires
-seek-from-requires c κs = let w = end-within _ _ _ _ (sym (c .before .before .segment-end .ensures) ∙ (c .enum-told .given .1)) in let a = w .behind in let b = w .inside in omega arith
+seek-from-requires c κs = search needs
 
 enum-told-2 : tie.Need-enum-told-2
 enum-told-2 c = search needs

@@ -1,58 +1,122 @@
--- `lookup::seek_from` meets its contract. The invariant, `Seeking`: the search from here ends as the whole does, and its
--- numbers cannot wrap.
+-- `lookup::seek_from` meets its contract. The invariant, `Seeking`: the search from here ends as the whole does, and its numbers
+-- cannot wrap.
 use Prim.Native.Nat.{_-_}
 use native.Mathlib.Omega.{arith}
-use mathlib.Core.Path.{_∙_, sym}
+use mathlib.Core.Path.{refl, sym, _∙_}
 use lib.ListN.{length}
 use borrow.Author.Needs.{needs}
-use Rattle.reading.proofs.Seeking.{Seeking, seeking-begin, seeking-lies, seeking-on, seeking-out}
+use Rattle.reading.specs.Machine.{seek}
+use Rattle.reading.proofs.Seeking.{Seeking, seeking-begin, seek-released, seek-component, seek-element, seek-release, seek-plain, seek-other, seek-found, seek-absent, seeking-out}
 use Rattle.reading.proofs.lookup.seek_from.Statement.{statement}
 use Rattle.reading.proofs.lookup.seek_from.Tie as tie
 
 abbrev Inv-loop : tie.InvT-loop
-Inv-loop service message from element component seek₀ position₀ seek position = Seeking service message from element component seek position
+Inv-loop service message from element component elements₀ components₀ start₀ released₀ position₀ elements components start released position = Seeking service message from element component (seek elements components start released) position
 
 abbrev μ-loop : tie.MeasureT-loop
-μ-loop service message from element component seek₀ position₀ seek position = length message - position
-
-before-elements-requires : tie.Need-before-elements-requires Inv-loop μ-loop
-before-elements-requires c κs = search needs
+μ-loop service message from element component elements₀ components₀ start₀ released₀ position₀ elements components start released position = length message - position
 
 loop-holds : tie.Need-loop-holds Inv-loop μ-loop
-loop-holds c = rw (c .before-elements .ensures) (seeking-begin _ _ _ _ _ (c .before .before .pre))
+loop-holds c = seeking-begin (c .before .args .service) (c .before .args .message .now) (c .before .args .from) (c .before .args .element) (c .before .args .component)
 
 shared-slice-read-kind-of : tie.Need-shared-slice-read-kind-of Inv-loop μ-loop
-shared-slice-read-kind-of c = omega arith
+shared-slice-read-kind-of c = omega (arith, (c .before .loop-test .taken))
 
 kind-of-requires : tie.Need-kind-of-requires Inv-loop μ-loop
 kind-of-requires c κs = search needs
 
-seek-byte-requires : tie.Need-seek-byte-requires Inv-loop μ-loop
-seek-byte-requires c κs = omega (arith, (c .before .before .before .loop .inv .kept .element-few), (c .before .before .before .loop .inv .kept .component-few))
-
-enum-known-next : tie.Need-enum-known-next Inv-loop μ-loop
-enum-known-next c = search needs
-
-enum-known-span : tie.Need-enum-known-span Inv-loop μ-loop
-enum-known-span c = search needs
-
-returns : tie.Need-returns Inv-loop μ-loop
-returns c = seeking-lies _ _ _ _ _ (c .before .before .before .before .before .before .before .loop .seek) _ (c .before .before .before .before .kind-of .result) _ (c .before .before .before .before .before .before .loop-test .taken) (c .before .before .before .before .before .before .before .loop .inv) (c .before .before .before .before .kind-of .ensures) (sym (c .before .span .given .1) ∙ (c .before .before .before .seek-byte .ensures))
-
 add-position : tie.Need-add-position Inv-loop μ-loop
-add-position c = omega arith
+add-position c = omega (arith, (c .before .before .loop-test .taken))
 
 loop-less : tie.Need-loop-less Inv-loop μ-loop
-loop-less c = omega arith
+loop-less c = omega (arith, (c .before .before .before .loop-test .taken))
 
 loop-again : tie.Need-loop-again Inv-loop μ-loop
-loop-again c = seeking-on _ _ _ _ _ (c .before .before .before .before .before .before .before .loop .seek) _ _ (c .before .before .before .before .kind-of .result) (c .before .before .before .before .before .before .loop-test .taken) (c .before .before .before .before .before .before .before .loop .inv) (c .before .before .before .before .kind-of .ensures) (sym (c .before .next .given .1) ∙ (c .before .before .before .seek-byte .ensures))
+loop-again c = seek-released (c .before .before .before .before .before .before .args .service) (c .before .before .before .before .before .before .args .message .now) (c .before .before .before .before .before .before .args .from) (c .before .before .before .before .before .before .args .element) (c .before .before .before .before .before .before .args .component) (c .before .before .before .before .loop .elements) (c .before .before .before .before .loop .components) (c .before .before .before .before .loop .start) (c .before .before .before .before .loop .position) _ (c .before .before .before .loop-test .taken) (c .before .kind-of .ensures) (c .before .before .before .before .loop .released) (c .if1 .taken) (c .before .before .before .before .loop .inv)
+
+enum-told : tie.Need-enum-told Inv-loop μ-loop
+enum-told c = search needs
+
+is-here-requires : tie.Need-is-here-requires Inv-loop μ-loop
+is-here-requires c κs = search needs
+
+returns : tie.Need-returns Inv-loop μ-loop
+returns c = seek-found (c .before .before .before .before .before .before .before .before .before .before .args .service) (c .before .before .before .before .before .before .before .before .before .before .args .message .now) (c .before .before .before .before .before .before .before .before .before .before .args .from) (c .before .before .before .before .before .before .before .before .before .before .args .element) (c .before .before .before .before .before .before .before .before .before .before .args .component) (c .before .before .before .before .before .before .before .before .loop .elements) (c .before .before .before .before .before .before .before .before .loop .components) (c .before .before .before .before .before .before .before .before .loop .start) (c .before .before .before .before .before .before .before .before .loop .position) _ (c .before .before .before .before .before .before .before .loop-test .taken) (c .before .before .before .before .before .kind-of .ensures) (c .before .before .before .before .before .before .before .before .loop .released) (c .before .before .before .before .if1 .left) (c .before .before .before .before .before .before .before .before .loop .inv) _ (c .before .before .enum-told .given .1) refl (sym (c .before .is-here .ensures) ∙ (c .if2 .taken))
+
+add-components : tie.Need-add-components Inv-loop μ-loop
+add-components c = omega (arith, (c .before .before .before .before .before .before .before .loop-test .taken), (c .before .before .before .before .before .before .before .before .loop .inv .kept .component-few))
+
+loop-less-2 : tie.Need-loop-less-2 Inv-loop μ-loop
+loop-less-2 c = omega (arith, (c .before .before .before .before .before .before .before .loop-test .taken))
+
+loop-again-2 : tie.Need-loop-again-2 Inv-loop μ-loop
+loop-again-2 c = seek-component (c .before .before .before .before .before .before .before .before .before .before .args .service) (c .before .before .before .before .before .before .before .before .before .before .args .message .now) (c .before .before .before .before .before .before .before .before .before .before .args .from) (c .before .before .before .before .before .before .before .before .before .before .args .element) (c .before .before .before .before .before .before .before .before .before .before .args .component) (c .before .before .before .before .before .before .before .before .loop .elements) (c .before .before .before .before .before .before .before .before .loop .components) (c .before .before .before .before .before .before .before .before .loop .start) (c .before .before .before .before .before .before .before .before .loop .position) _ (c .before .before .before .before .before .before .before .loop-test .taken) (c .before .before .before .before .before .kind-of .ensures) (c .before .before .before .before .before .before .before .before .loop .released) (c .before .before .before .before .if1 .left) (c .before .before .before .before .before .before .before .before .loop .inv) (c .before .before .enum-told .given .1) (sym (c .before .is-here .ensures) ∙ (c .if2 .left))
+
+enum-told-2 : tie.Need-enum-told-2 Inv-loop μ-loop
+enum-told-2 c = search needs
+
+is-here-requires-2 : tie.Need-is-here-requires-2 Inv-loop μ-loop
+is-here-requires-2 c κs = search needs
+
+returns-2 : tie.Need-returns-2 Inv-loop μ-loop
+returns-2 c = seek-found (c .before .before .before .before .before .before .before .before .before .before .args .service) (c .before .before .before .before .before .before .before .before .before .before .args .message .now) (c .before .before .before .before .before .before .before .before .before .before .args .from) (c .before .before .before .before .before .before .before .before .before .before .args .element) (c .before .before .before .before .before .before .before .before .before .before .args .component) (c .before .before .before .before .before .before .before .before .loop .elements) (c .before .before .before .before .before .before .before .before .loop .components) (c .before .before .before .before .before .before .before .before .loop .start) (c .before .before .before .before .before .before .before .before .loop .position) _ (c .before .before .before .before .before .before .before .loop-test .taken) (c .before .before .before .before .before .kind-of .ensures) (c .before .before .before .before .before .before .before .before .loop .released) (c .before .before .before .before .if1 .left) (c .before .before .before .before .before .before .before .before .loop .inv) _ (c .before .before .enum-told2 .given .1) refl (sym (c .before .is-here2 .ensures) ∙ (c .if3 .taken))
+
+add-elements : tie.Need-add-elements Inv-loop μ-loop
+add-elements c = omega (arith, (c .before .before .before .before .before .before .before .loop-test .taken), (c .before .before .before .before .before .before .before .before .loop .inv .kept .element-few))
+
+loop-less-3 : tie.Need-loop-less-3 Inv-loop μ-loop
+loop-less-3 c = omega (arith, (c .before .before .before .before .before .before .before .loop-test .taken))
+
+loop-again-3 : tie.Need-loop-again-3 Inv-loop μ-loop
+loop-again-3 c = seek-element (c .before .before .before .before .before .before .before .before .before .before .args .service) (c .before .before .before .before .before .before .before .before .before .before .args .message .now) (c .before .before .before .before .before .before .before .before .before .before .args .from) (c .before .before .before .before .before .before .before .before .before .before .args .element) (c .before .before .before .before .before .before .before .before .before .before .args .component) (c .before .before .before .before .before .before .before .before .loop .elements) (c .before .before .before .before .before .before .before .before .loop .components) (c .before .before .before .before .before .before .before .before .loop .start) (c .before .before .before .before .before .before .before .before .loop .position) _ (c .before .before .before .before .before .before .before .loop-test .taken) (c .before .before .before .before .before .kind-of .ensures) (c .before .before .before .before .before .before .before .before .loop .released) (c .before .before .before .before .if1 .left) (c .before .before .before .before .before .before .before .before .loop .inv) (c .before .before .enum-told2 .given .1) (sym (c .before .is-here2 .ensures) ∙ (c .if3 .left))
+
+enum-told-3 : tie.Need-enum-told-3 Inv-loop μ-loop
+enum-told-3 c = search needs
+
+is-here-requires-3 : tie.Need-is-here-requires-3 Inv-loop μ-loop
+is-here-requires-3 c κs = search needs
+
+returns-3 : tie.Need-returns-3 Inv-loop μ-loop
+returns-3 c = seek-found (c .before .before .before .before .before .before .before .before .before .before .args .service) (c .before .before .before .before .before .before .before .before .before .before .args .message .now) (c .before .before .before .before .before .before .before .before .before .before .args .from) (c .before .before .before .before .before .before .before .before .before .before .args .element) (c .before .before .before .before .before .before .before .before .before .before .args .component) (c .before .before .before .before .before .before .before .before .loop .elements) (c .before .before .before .before .before .before .before .before .loop .components) (c .before .before .before .before .before .before .before .before .loop .start) (c .before .before .before .before .before .before .before .before .loop .position) _ (c .before .before .before .before .before .before .before .loop-test .taken) (c .before .before .before .before .before .kind-of .ensures) (c .before .before .before .before .before .before .before .before .loop .released) (c .before .before .before .before .if1 .left) (c .before .before .before .before .before .before .before .before .loop .inv) _ (c .before .before .enum-told3 .given .1) refl (sym (c .before .is-here3 .ensures) ∙ (c .if4 .taken))
 
 empty-at-requires : tie.Need-empty-at-requires Inv-loop μ-loop
 empty-at-requires c κs = search needs
 
-returns-2 : tie.Need-returns-2 Inv-loop μ-loop
-returns-2 c = (c .empty-at .ensures) ∙ seeking-out _ _ _ _ _ (c .before .before .loop .seek) _ (c .before .loop-test .left) (c .before .before .loop .inv)
+returns-4 : tie.Need-returns-4 Inv-loop μ-loop
+returns-4 c = seek-absent (c .before .before .before .before .before .before .before .before .before .before .before .args .service) (c .before .before .before .before .before .before .before .before .before .before .before .args .message .now) (c .before .before .before .before .before .before .before .before .before .before .before .args .from) (c .before .before .before .before .before .before .before .before .before .before .before .args .element) (c .before .before .before .before .before .before .before .before .before .before .before .args .component) (c .before .before .before .before .before .before .before .before .before .loop .elements) (c .before .before .before .before .before .before .before .before .before .loop .components) (c .before .before .before .before .before .before .before .before .before .loop .start) (c .before .before .before .before .before .before .before .before .before .loop .position) _ (c .before .before .before .before .before .before .before .before .loop-test .taken) (c .before .before .before .before .before .before .kind-of .ensures) (c .before .before .before .before .before .before .before .before .before .loop .released) (c .before .before .before .before .before .if1 .left) (c .before .before .before .before .before .before .before .before .before .loop .inv) _ (c .before .before .before .enum-told3 .given .1) (sym (c .before .before .is-here3 .ensures) ∙ (c .before .if4 .left)) (c .empty-at .ensures)
+
+enum-told-4 : tie.Need-enum-told-4 Inv-loop μ-loop
+enum-told-4 c = search needs
+
+loop-less-4 : tie.Need-loop-less-4 Inv-loop μ-loop
+loop-less-4 c = omega (arith, (c .before .before .before .before .before .loop-test .taken))
+
+loop-again-4 : tie.Need-loop-again-4 Inv-loop μ-loop
+loop-again-4 c = seek-release (c .before .before .before .before .before .before .before .before .args .service) (c .before .before .before .before .before .before .before .before .args .message .now) (c .before .before .before .before .before .before .before .before .args .from) (c .before .before .before .before .before .before .before .before .args .element) (c .before .before .before .before .before .before .before .before .args .component) (c .before .before .before .before .before .before .loop .elements) (c .before .before .before .before .before .before .loop .components) (c .before .before .before .before .before .before .loop .start) (c .before .before .before .before .before .before .loop .position) _ (c .before .before .before .before .before .loop-test .taken) (c .before .before .before .kind-of .ensures) (c .before .before .before .before .before .before .loop .released) (c .before .before .if1 .left) (c .before .before .before .before .before .before .loop .inv) (c .enum-told4 .given .1)
+
+enum-told-5 : tie.Need-enum-told-5 Inv-loop μ-loop
+enum-told-5 c = search needs
+
+loop-less-5 : tie.Need-loop-less-5 Inv-loop μ-loop
+loop-less-5 c = omega (arith, (c .before .before .before .before .before .loop-test .taken))
+
+loop-again-5 : tie.Need-loop-again-5 Inv-loop μ-loop
+loop-again-5 c = seek-plain (c .before .before .before .before .before .before .before .before .args .service) (c .before .before .before .before .before .before .before .before .args .message .now) (c .before .before .before .before .before .before .before .before .args .from) (c .before .before .before .before .before .before .before .before .args .element) (c .before .before .before .before .before .before .before .before .args .component) (c .before .before .before .before .before .before .loop .elements) (c .before .before .before .before .before .before .loop .components) (c .before .before .before .before .before .before .loop .start) (c .before .before .before .before .before .before .loop .position) _ (c .before .before .before .before .before .loop-test .taken) (c .before .before .before .kind-of .ensures) (c .before .before .before .before .before .before .loop .released) (c .before .before .if1 .left) (c .before .before .before .before .before .before .loop .inv) (c .enum-told5 .given .1)
+
+enum-told-6 : tie.Need-enum-told-6 Inv-loop μ-loop
+enum-told-6 c = search needs
+
+loop-less-6 : tie.Need-loop-less-6 Inv-loop μ-loop
+loop-less-6 c = omega (arith, (c .before .before .before .before .before .loop-test .taken))
+
+loop-again-6 : tie.Need-loop-again-6 Inv-loop μ-loop
+loop-again-6 c = seek-other (c .before .before .before .before .before .before .before .before .args .service) (c .before .before .before .before .before .before .before .before .args .message .now) (c .before .before .before .before .before .before .before .before .args .from) (c .before .before .before .before .before .before .before .before .args .element) (c .before .before .before .before .before .before .before .before .args .component) (c .before .before .before .before .before .before .loop .elements) (c .before .before .before .before .before .before .loop .components) (c .before .before .before .before .before .before .loop .start) (c .before .before .before .before .before .before .loop .position) _ (c .before .before .before .before .before .loop-test .taken) (c .before .before .before .kind-of .ensures) (c .before .before .before .before .before .before .loop .released) (c .before .before .if1 .left) (c .before .before .before .before .before .before .loop .inv) (c .enum-told6 .given .1)
+
+empty-at-requires-2 : tie.Need-empty-at-requires-2 Inv-loop μ-loop
+empty-at-requires-2 c κs = search needs
+
+returns-5 : tie.Need-returns-5 Inv-loop μ-loop
+returns-5 c = (c .empty-at2 .ensures) ∙ seeking-out (c .before .before .before .before .args .service) (c .before .before .before .before .args .message .now) (c .before .before .before .before .args .from) (c .before .before .before .before .args .element) (c .before .before .before .before .args .component) (seek (c .before .before .loop .elements) (c .before .before .loop .components) (c .before .before .loop .start) (c .before .before .loop .released)) (c .before .before .loop .position) (c .before .loop-test .left) (c .before .before .loop .inv)
 
 pub seek-from-spec : {M : Type 1} → statement M
 seek-from-spec =
@@ -60,16 +124,37 @@ seek-from-spec =
     (tie.spec
     Inv-loop
     μ-loop
-    before-elements-requires
     loop-holds
     shared-slice-read-kind-of
     kind-of-requires
-    seek-byte-requires
-    enum-known-next
-    enum-known-span
-    returns
     add-position
     loop-less
     loop-again
+    enum-told
+    is-here-requires
+    returns
+    add-components
+    loop-less-2
+    loop-again-2
+    enum-told-2
+    is-here-requires-2
+    returns-2
+    add-elements
+    loop-less-3
+    loop-again-3
+    enum-told-3
+    is-here-requires-3
+    returns-3
     empty-at-requires
-    returns-2)
+    returns-4
+    enum-told-4
+    loop-less-4
+    loop-again-4
+    enum-told-5
+    loop-less-5
+    loop-again-5
+    enum-told-6
+    loop-less-6
+    loop-again-6
+    empty-at-requires-2
+    returns-5)
