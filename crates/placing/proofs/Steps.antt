@@ -5,7 +5,7 @@ use mathlib.Core.Path.{_≡_, refl, sym, ap, ap₂, _∙_, subst}
 use mathlib.Core.List.{List, [], _∷_, _++_, append-assoc, append-nil}
 use mathlib.Core.Bool.{Bool, true, false, cond, not, _&&_, and-false}
 use lib.Dec.{eqb, ltb, leb}
-use lib.ListN.{length, getD, take, drop, set, length-take, drop-of-length-le}
+use lib.ListN.{length, getD, take, drop, set, length-take, length-set, drop-of-length-le}
 use lib.Seq.{drop-cons, getD-take, take-take, take-suc-set, set-out}
 use borrow.Author.Tests.{lt-ltb, le-ltb, eq-eqb, ne-eqb, le-leb, lt-leb, ltb-true, eqb-true, eqb-false}
 use Rattle.placing.proofs.LeavingOut.{left, right}
@@ -32,10 +32,33 @@ pub raise-new : (v : Level) (t : ℕ) → (v .line ≡ t → ⊥) → level t 1 
 raise-new v t e = sym (simp (ne-eqb (v .line) t e))
 
 -- with_level
-pub level-stack : (w : Walk) (d : ℕ) (v : Level) → Ready w → d ≤ w .height → d < 8 → take (d + 1) (set (w .levels) d v) ≡ take d (openLines w) ++ (v ∷ [])
+pub within-eight : (d : ℕ) (o : Bool) → d < cond o 7 8 → d < 8
+within-eight d true h = omega arith
+within-eight d false h = h
+
+pub within-seven : (d : ℕ) (o : Bool) → d < cond o 7 8 → o ≡ true → d < 7
+within-seven d o h y = subst (λ (x : Bool). d < cond x 7 8) y h
+
+level-stack : (w : Walk) (d : ℕ) (v : Level) → Ready w → d ≤ w .height → d < 8 → take (d + 1) (set (w .levels) d v) ≡ take d (openLines w) ++ (v ∷ [])
 level-stack w d v q i j =
     ap (λ (x : ℕ). take x (set (w .levels) d v)) (plus-one d) ∙ take-suc-set (w .levels) d v (let e = q .eight in omega arith)
     ∙ ap (λ (x : List Level). x ++ (v ∷ [])) (sym (take-take d (w .height) (w .levels) i))
+
+pub one-level : (w : Walk) (d : ℕ) (v : Level) (o : Bool) (l : ℕ) → Ready w → d ≤ w .height → d < 8 → o ≡ false
+    → take (d + 1) (set (w .levels) d v) ≡ (take d (openLines w) ++ (v ∷ [])) ++ entered o l
+one-level w d v o l q i j y =
+    level-stack w d v q i j ∙ sym (append-nil (take d (openLines w) ++ (v ∷ []))) ∙ ap (λ (x : Bool). (take d (openLines w) ++ (v ∷ [])) ++ entered x l) (sym y)
+
+pub two-long : (w : Walk) (d : ℕ) (v u : Level) → Ready w → length (set (set (w .levels) d v) (d + 1) u) ≡ 8
+two-long w d v u q = length-set (set (w .levels) d v) (d + 1) u ∙ length-set (w .levels) d v ∙ q .eight
+
+pub two-levels : (w : Walk) (d : ℕ) (v : Level) (o : Bool) (l : ℕ) → Ready w → d ≤ w .height → d < 7 → o ≡ true
+    → take (d + 2) (set (set (w .levels) d v) (d + 1) (level l 1)) ≡ (take d (openLines w) ++ (v ∷ [])) ++ entered o l
+two-levels w d v o l q i j y =
+    let more : d + 2 ≡ suc (d + 1) = omega arith in
+    ap (λ (x : ℕ). take x (set (set (w .levels) d v) (d + 1) (level l 1))) more
+    ∙ take-suc-set (set (w .levels) d v) (d + 1) (level l 1) (let e = q .eight in omega (arith, length-set (w .levels) d v))
+    ∙ ap (λ (x : List Level). x ++ (level l 1 ∷ [])) (level-stack w d v q i (omega arith)) ∙ ap (λ (x : Bool). (take d (openLines w) ++ (v ∷ [])) ++ entered x l) (sym y)
 
 module _ (b : Plan) where
   -- can_close
@@ -152,33 +175,16 @@ module _ (b : Plan) where
   place-is l n d k g o z e i eg y ed eo ek =
       ap₂ ltb ed (ek ∙ ap (λ (x : Bool). cond x 7 8) eo) ∙ sym (simp (lt-ltb 0 l (omega arith), le-leb l (b .lines) (omega arith), sym eg ∙ y))
 
-  -- moved
-  module _ (w : Walk) (t d : ℕ) (q : Ready w) (e : d ≡ b .depth t) (f : admits b (openLines w) t ≡ true) where
-    pub admits-under : d < w .height
-    unfolding admits
-    admits-under = let h = ltb-true (b .depth t) (length (openLines w)) (left (ltb (b .depth t) (length (openLines w))) _ f) in let l = stack-long w q in omega arith
+  -- a line that comes once more has not come up to its maximum
+  pub move-room : (v : Level) (t : ℕ) (m : Bool) → m ≡ canMove b v t → m ≡ true → v .line ≡ t → v .count < b .maximum t
+  move-room v t m h y e = ltb-true (v .count) (b .maximum t) (move-same v t (b .maximum t) e refl ∙ sym h ∙ y)
 
-    admits-moves : canMove b (getD (w .levels) d (level 0 0)) t ≡ true
-    admits-moves = left _ (canCloseAll b (suc d) (drop (suc d) (openLines w))) (sym (admits-low w t d q e (getD (w .levels) d (level 0 0)) (canMove b (getD (w .levels) d (level 0 0)) t) admits-under refl refl) ∙ f)
-
-    pub admits-room : getD (w .levels) d (level 0 0) .line ≡ t → getD (w .levels) d (level 0 0) .count < b .maximum t
-    admits-room k = ltb-true _ (b .maximum t) (move-same (getD (w .levels) d (level 0 0)) t (b .maximum t) k refl ∙ admits-moves)
-
-    pub stacked-is : (u : Level) (one : Walk) → u ≡ raised (getD (w .levels) d (level 0 0)) t → openLines one ≡ take d (openLines w) ++ (u ∷ []) → openLines one ≡ stacked (b .depth t) (openLines w) t
-    unfolding stacked
-    stacked-is u one h k =
-        k ∙ ap (λ (x : Level). take d (openLines w) ++ (x ∷ [])) (h ∙ ap (λ (x : Level). raised x t) (sym (stack-at w d (level 0 0) admits-under)))
-        ∙ ap (λ (x : ℕ). take x (openLines w) ++ (raised (getD (openLines w) x (level 0 0)) t ∷ [])) e
-
-    pub moved-one : (u : Level) (one : Walk) (l : ℕ) (o : Bool) → u ≡ raised (getD (w .levels) d (level 0 0)) t → openLines one ≡ take d (openLines w) ++ (u ∷ []) → o ≡ false
-        → openLines one ≡ stacked (b .depth t) (openLines w) t ++ entered o l
-    moved-one u one l o h k y = stacked-is u one h k ∙ sym (append-nil (stacked (b .depth t) (openLines w) t)) ∙ ap (λ (x : Bool). stacked (b .depth t) (openLines w) t ++ entered x l) (sym y)
-
-    pub moved-two : (u : Level) (one two : Walk) (l : ℕ) (o : Bool) → u ≡ raised (getD (w .levels) d (level 0 0)) t → openLines one ≡ take d (openLines w) ++ (u ∷ []) → Ready one → one .height ≡ d + 1
-        → openLines two ≡ take (d + 1) (openLines one) ++ (level l 1 ∷ []) → o ≡ true → openLines two ≡ stacked (b .depth t) (openLines w) t ++ entered o l
-    moved-two u one two l o h k r m n y =
-        n ∙ ap (λ (x : List Level). x ++ (level l 1 ∷ [])) (take-take (d + 1) (one .height) (one .levels) (omega arith) ∙ ap (λ (x : ℕ). take x (one .levels)) (sym m) ∙ stacked-is u one h k)
-        ∙ ap (λ (x : Bool). stacked (b .depth t) (openLines w) t ++ entered x l) (sym y)
+  pub stacked-is : (w : Walk) (t d : ℕ) (u v : Level) → d ≡ b .depth t → d < w .height → v ≡ getD (w .levels) d (level 0 0) → u ≡ raised v t
+      → take d (openLines w) ++ (u ∷ []) ≡ stacked (b .depth t) (openLines w) t
+  unfolding stacked
+  stacked-is w t d u v e i g h =
+      ap (λ (x : Level). take d (openLines w) ++ (x ∷ [])) (h ∙ ap (λ (x : Level). raised x t) (g ∙ sym (stack-at w d (level 0 0) i)))
+      ∙ ap (λ (x : ℕ). take x (openLines w) ++ (raised (getD (openLines w) x (level 0 0)) t ∷ [])) e
 
   -- advance
   pub advance-yes : (vs us : List Level) (l t : ℕ) (p f o : Bool) → p ≡ isPlaceable b l → p ≡ true → t ≡ target b l → f ≡ admits b vs t → f ≡ true → o ≡ isTrigger b l
@@ -201,9 +207,6 @@ module _ (b : Plan) where
       ltb-true (b .depth t) (cond o 7 8)
       (ap₂ (λ (x : ℕ) (y : Bool). ltb (b .depth x) (cond y 7 8)) et eo
       ∙ right (not (b .group l)) _ (right (leb l (b .lines)) _ (right (ltb 0 l) _ (sym ep ∙ yp))))
-
-  pub under-seven : (d t : ℕ) (o : Bool) → d ≡ b .depth t → b .depth t < cond o 7 8 → o ≡ true → d + 1 < 8
-  under-seven d t o e h y = let k : b .depth t < 7 = subst (λ (x : Bool). b .depth t < cond x 7 8) y h in omega arith
 
   -- the trail
   pub open-not : (trail : List ℕ) (h n : ℕ) (o : Bool) → o ≡ isTrigger b h → o ≡ false → trail ≡ openedBy b trail h n

@@ -1,11 +1,11 @@
 // The walk through the lines of a guide book, home by home.
 ghost use mathlib.Core.Path.{_≡_};
 ghost use mathlib.Core.List.{List, _∷_, [], _++_};
-ghost use mathlib.Core.Bool.{true, cond};
+ghost use mathlib.Core.Bool.{cond};
 ghost use Prim.Native.Nat.{ℕ, suc, _+_, _-_, _≤_, _<_, _^_};
-ghost use lib.ListN.{take, drop};
+ghost use lib.ListN.{getD, take, drop};
 ghost use Rattle.placing.specs.Plan.{Plan, planIn};
-ghost use Rattle.placing.specs.Walking.{isTrigger, target, isPlaceable, isWanted, isClear, isPassed, canClose, canCloseAll, canMove, admits, raised, stacked, entered, walked, start, isAlive, openLines, Ready, StandsFor};
+ghost use Rattle.placing.specs.Walking.{isTrigger, target, isPlaceable, isWanted, isClear, isPassed, canClose, canCloseAll, canMove, raised, level, entered, walked, start, isAlive, openLines, Ready, StandsFor};
 use book::layout;
 
 // An open line and how often it has come in its parent's instance.
@@ -178,19 +178,15 @@ fn can_move(book: &[u8], level: Level, to: u32) -> bool
     false
 }
 
-fn admits_line(book: &[u8], walk: Walk, to: u32) -> bool
-    requires { ⌜ Ready walk ⌝ }
-    ensures { λ r. ⌜ r ≡ admits (planIn (now (book .entry))) (openLines walk) to ⌝ }
+// The same, where there may be none.
+fn closes_below(book: &[u8], walk: Walk, depth: usize) -> bool
+    requires { ⌜ Ready walk × (depth ≤ 8) ⌝ }
+    ensures { λ r. ⌜ r ≡ canCloseAll (planIn (now (book .entry))) depth (drop depth (openLines walk)) ⌝ }
 {
-    let depth = depth_of(book, to);
-    let height = walk.height;
-    if depth < height {
-        let level = walk.levels[depth];
-        if can_move(book, level, to) {
-            return can_close_all(book, walk, depth + 1);
-        }
+    if walk.height <= depth {
+        return true;
     }
-    false
+    can_close_all(book, walk, depth)
 }
 
 // The open line where `to` has come once more.
@@ -223,14 +219,31 @@ impl Walk {
         self.height != 0
     }
 
-    // With this line open at this depth and nothing below it.
-    fn with_level(self, depth: usize, level: Level) -> Walk
-        requires { ⌜ Ready self × (depth ≤ self .height) × (depth < 8) ⌝ }
-        ensures { λ r. ⌜ Ready r × (r .height ≡ depth + 1) × (openLines r ≡ take depth (openLines self) ++ (level ∷ [])) ⌝ }
+    fn level_at(self, depth: usize) -> Level
+        requires { ⌜ Ready self × (depth < 8) ⌝ }
+        ensures { λ r. ⌜ r ≡ getD (self .levels) depth (level 0 0) ⌝ }
+    {
+        let line = self.levels[depth].line;
+        let count = self.levels[depth].count;
+        Level { line, count }
+    }
+
+    // With this line open at this depth and nothing below it but, where it opens an instance, that one's trigger.
+    fn with_level(self, depth: usize, level: Level, opens: bool, trigger: u32) -> Walk
+        requires { ⌜ Ready self × (depth ≤ self .height) × (depth < cond opens 7 8) ⌝ }
+        ensures { λ r. ⌜ Ready r × (openLines r ≡ (take depth (openLines self) ++ (level ∷ [])) ++ entered opens trigger) ⌝ }
     {
         let mut walk = self;
         walk.levels[depth] = level;
-        walk.height = depth + 1;
+        if !opens {
+            walk.height = depth + 1;
+            return walk;
+        }
+        walk.levels[depth + 1] = Level {
+            line: trigger,
+            count: 1,
+        };
+        walk.height = depth + 2;
         walk
     }
 
@@ -244,20 +257,6 @@ impl Walk {
     }
 }
 
-// The walk where line `to`, which is admitted, has come once more; `opens` where home `line` is the trigger that opens it.
-fn move_to(book: &[u8], walk: Walk, to: u32, line: u32, opens: bool) -> Walk
-    requires { ⌜ Ready walk × (admits (planIn (now book)) (openLines walk) to ≡ true) × (planIn (now book) .depth to < cond opens 7 8) ⌝ }
-    ensures { λ r. ⌜ Ready r × (openLines r ≡ stacked (planIn (now (book .entry)) .depth to) (openLines walk) to ++ entered opens line) ⌝ }
-{
-    let depth = depth_of(book, to);
-    let level = walk.levels[depth];
-    let moved = walk.with_level(depth, raise(level, to));
-    if opens {
-        return moved.with_level(depth + 1, Level { line, count: 1 });
-    }
-    moved
-}
-
 // One home more: a walk that stands for some homes now stands for one more.
 pub fn advance(book: &[u8], walk: Walk, home: u32) -> Walk
     requires { ⌜ Ready walk ⌝ }
@@ -267,8 +266,16 @@ pub fn advance(book: &[u8], walk: Walk, home: u32) -> Walk
         return walk.refused();
     }
     let to = target_of(book, home);
-    if !admits_line(book, walk, to) {
+    let depth = depth_of(book, to);
+    if walk.height <= depth {
         return walk.refused();
     }
-    move_to(book, walk, to, home, is_trigger(book, home))
+    let level = walk.level_at(depth);
+    if !can_move(book, level, to) {
+        return walk.refused();
+    }
+    if !closes_below(book, walk, depth + 1) {
+        return walk.refused();
+    }
+    walk.with_level(depth, raise(level, to), is_trigger(book, home), home)
 }
