@@ -1,13 +1,15 @@
 -- The steps of the functions that find a home.
-use Prim.Native.Nat.{ℕ, zero, suc, _+_, _*_, _-_, _%_, _≤_, _<_}
+use Prim.Native.Nat.{ℕ, zero, suc, _+_, _-_, _≤_, _<_}
 use native.Mathlib.Omega.{arith}
+use native.Mathlib.Decide.{decLt}
 use native.Mathlib.Numerals.{add-one}
 use mathlib.Core.Path.{_≡_, refl, sym, ap, ap₂, _∙_, subst}
 use mathlib.Core.List.{List, [], _∷_}
 use mathlib.Core.Bool.{Bool, true, false, cond, not, _&&_, _||_}
+use mathlib.Core.Logic.{dite}
 use lib.Dec.{eqb}
-use lib.ListN.{length, getD, drop, drop-of-length-le}
-use lib.Seq.{drop-cons}
+use lib.ListN.{length, getD, set, drop, drop-of-length-le}
+use lib.Seq.{drop-cons, getD-set-same, getD-set-other}
 use borrow.Author.Tests.{eq-eqb, ne-eqb}
 use Rattle.book.specs.Guide.{Guide}
 use Rattle.reading.specs.Machine.{seekFrom}
@@ -87,11 +89,6 @@ module _ (b : Guide) where
       pub lies-inside : at + 3 ≤ length bs → Inside (length bs) (x .span)
       lies-inside h = subst (Inside (length bs)) (sym (look .lies n)) (seek-inside s bs (at + 3) (x .element) (x .component) h)
 
-  -- the first byte of a tag is its number's remainder by 256
-  pub other-first : (l t x : ℕ) → b .tag l ≡ b .tagByte l 0 + 256 * b .tagByte l 1 + 65536 * b .tagByte l 2 → x ≡ b .tagByte l 0 → x < 256 → (x ≡ t % 256 → ⊥)
-      → false ≡ (eqb (b .tag l) t && not (eqb (b .kind l) 2))
-  other-first l t x e h w n = sym (simp (ne-eqb (b .tag l) t (λ z. n (omega (arith, e)))))
-
   pub other-tag : (l t x : ℕ) → x ≡ b .tag l → (x ≡ t → ⊥) → false ≡ (eqb (b .tag l) t && not (eqb (b .kind l) 2))
   other-tag l t x e n = sym (simp (ne-eqb (b .tag l) t (λ z. n (e ∙ z))))
 
@@ -139,3 +136,13 @@ module _ (test : ℕ → Bool) (end : ℕ) where
 -- all lines, from the first on
 pub from-first : (test : ℕ → Bool) (lines : ℕ) → least test 1 (suc lines - 1) ≡ least test 1 lines
 from-first test lines = let z : suc lines - 1 ≡ lines = omega arith in ap (least test 1) z
+
+-- ---- the table of tags
+
+-- one tag more
+pub tabled-on : (tag : ℕ → ℕ) (tags : List ℕ) (l x : ℕ) → l < length tags → x ≡ tag l → ((k : ℕ) → k < l → getD tags k 0 ≡ tag k)
+    → (k : ℕ) → k < l + 1 → getD (set tags l x) k 0 ≡ tag k
+tabled-on tag tags l x h e all k i =
+    dite (decLt k l)
+    (λ j. getD-set-other tags l k x 0 (λ z. omega arith) ∙ all k j)
+    (λ j. let z : l ≡ k = omega arith in subst (λ (y : ℕ). getD (set tags l x) y 0 ≡ tag y) z (getD-set-same tags l x 0 h ∙ e))

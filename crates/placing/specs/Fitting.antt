@@ -1,11 +1,11 @@
 -- A segment's home. 01: "A segment's home is the segment line of its tag whose codes, if it has a selector, include the value
 -- there."
-use Prim.Native.Nat.{ℕ, zero, suc, _+_}
+use Prim.Native.Nat.{ℕ, zero, suc, _+_, _<_}
 use mathlib.Core.Path.{_≡_}
 use mathlib.Core.List.{List, [], _∷_}
 use mathlib.Core.Bool.{Bool, true, false, cond, not, _&&_, _||_}
 use lib.Dec.{eqb}
-use lib.ListN.{length}
+use lib.ListN.{length, getD}
 use Rattle.book.specs.Guide.{Guide}
 use Rattle.book.specs.View.{Line, lineOf}
 use Rattle.reading.specs.Message.{Component, Tag, Segment}
@@ -67,3 +67,8 @@ homeAt s b bs at = least (fitsAt s b bs at) 1 (b .lines)
 -- a component that has been looked up lies where it is said to lie; element 0 is none
 pub record Looked (s : Service) (bs : List ℕ) (at : ℕ) (x : Selected) : Type 0 where
   pub lies : (x .element ≡ 0 → ⊥) → x .span ≡ seekFrom s bs (at + 3) (x .element) (x .component)
+
+-- a table of the tags of lines 0 to 256
+pub record TagsOf (b : Guide) (tags : List ℕ) : Type 0 where
+  pub long : length tags ≡ 257
+  pub same : (l : ℕ) → l < 257 → getD tags l 0 ≡ b .tag l

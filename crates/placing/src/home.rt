@@ -5,7 +5,7 @@ ghost use mathlib.Core.Bool.{not, _&&_};
 ghost use lib.Dec.{eqb};
 ghost use lib.ListN.{length};
 ghost use Rattle.book.specs.Guide.{guideOf};
-ghost use Rattle.placing.specs.Fitting.{isCode, isAnyCode, isSelectedAt, homeAt, Looked};
+ghost use Rattle.placing.specs.Fitting.{isCode, isAnyCode, isSelectedAt, homeAt, Looked, TagsOf};
 use book::layout;
 use reading::lookup;
 use reading::service::Service;
@@ -108,22 +108,48 @@ fn is_selected(
     is_any_code(book, first, count, &message[start..end])
 }
 
-// Is it a segment line of this tag? The first byte of its tag says no to most.
-fn has_tag(book: &[u8], line: u32, tag: u32) -> bool
+// Lines 0 to 256, which are all that a good book can have.
+pub const TABLED: usize = 257;
+
+// Their tags, read once for a pass over a message: the lines' tags are asked for most often of all.
+pub type Tags = [u32; TABLED];
+
+pub fn tags_of(book: &[u8]) -> Tags
+    ensures { λ r. ⌜ TagsOf (guideOf (now (book .entry))) r ⌝ }
+{
+    let mut tags = [0u32; TABLED];
+    let mut line: u32 = 0;
+    while line < 257 {
+        tags[line as usize] = layout::tag(book, line);
+        line += 1;
+    }
+    tags
+}
+
+fn tag_of(book: &[u8], tags: &Tags, line: u32) -> u32
+    requires { ⌜ TagsOf (guideOf (now book)) (now tags) ⌝ }
+    ensures { λ r. ⌜ r ≡ guideOf (now (book .entry)) .tag line ⌝ }
+{
+    if line < 257 {
+        return tags[line as usize];
+    }
+    layout::tag(book, line)
+}
+
+// Is it a segment line of this tag?
+fn has_tag(book: &[u8], tags: &Tags, line: u32, tag: u32) -> bool
+    requires { ⌜ TagsOf (guideOf (now book)) (now tags) ⌝ }
     ensures { λ r. ⌜ r ≡ (eqb (guideOf (now (book .entry)) .tag line) tag && not (eqb (guideOf (now (book .entry)) .kind line) 2)) ⌝ }
 {
-    if layout::tag_byte(book, line, 0) != tag % 256 {
-        return false;
-    }
-    if layout::tag(book, line) != tag {
+    if tag_of(book, tags, line) != tag {
         return false;
     }
     layout::kind(book, line) != 2
 }
 
 // The home of the segment that starts at an offset, with three bytes at least; 0 if it has none.
-pub fn find_home(service: Service, message: &[u8], at: usize, book: &[u8]) -> u32
-    requires { ⌜ at + 3 ≤ length (now message) ⌝ }
+pub fn find_home(service: Service, message: &[u8], at: usize, book: &[u8], tags: &Tags) -> u32
+    requires { ⌜ (at + 3 ≤ length (now message)) × TagsOf (guideOf (now book)) (now tags) ⌝ }
     ensures { λ r. ⌜ r ≡ homeAt service (guideOf (now (book .entry))) (now (message .entry)) at ⌝ }
 {
     let tag = tag::tag_at(message, at);
@@ -137,7 +163,7 @@ pub fn find_home(service: Service, message: &[u8], at: usize, book: &[u8]) -> u3
     while line <= lines {
         let tried = line;
         line += 1;
-        if has_tag(book, tried, tag) {
+        if has_tag(book, tags, tried, tag) {
             selected = select(service, message, at, book, tried, selected);
             if is_selected(service, message, at, book, tried, selected) {
                 return tried;

@@ -48,6 +48,7 @@ fn outcome_of(stop: u32) -> Placing
 pub fn test_placing(service: Service, message: &[u8], segments: u32, book: &[u8]) -> Placing
     ensures { λ r. ⌜ r ≡ tested (planIn (now (book .entry))) (homesFrom service (now (message .entry)) (now (book .entry)) segments 0) ⌝ }
 {
+    let tags = home::tags_of(book);
     let mut cursor = Cursor::first();
     let mut walk = Walk::begin();
     let mut stop: u32 = 0;
@@ -56,7 +57,7 @@ pub fn test_placing(service: Service, message: &[u8], segments: u32, book: &[u8]
         let at = cursor.at;
         match cursor.next_segment(service, message) {
             Found::Segment(_, next) => {
-                let home = home::find_home(service, message, at, book);
+                let home = home::find_home(service, message, at, book, &tags);
                 place += 1;
                 if home == 0 {
                     return Placing::NoHome(place);
@@ -105,6 +106,7 @@ pub fn write_tree(
         × (now (homes .exit) ≡ homesTable service (now (message .entry)) (now (book .entry)) segments (now (homes .entry)))
         × (now (parents .exit) ≡ parentsTable service (now (message .entry)) (now (book .entry)) segments (now (parents .entry))) ⌝ }
 {
+    let tags = home::tags_of(book);
     let mut cursor = Cursor::first();
     let mut trail = Trail::begin();
     let mut place: u32 = 0;
@@ -113,7 +115,7 @@ pub fn write_tree(
         let at = cursor.at;
         match cursor.next_segment(service, message) {
             Found::Segment(_, next) => {
-                let home = home::find_home(service, message, at, book);
+                let home = home::find_home(service, message, at, book, &tags);
                 put(starts, place, entry_of(at));
                 put(homes, place, home);
                 put(parents, place, tree::parent_of(book, trail, home));

@@ -11,10 +11,10 @@ use Rattle.placing.proofs.home.find_home.Statement.{statement}
 use Rattle.placing.proofs.home.find_home.Tie as tie
 
 abbrev Inv-loop : tie.InvT-loop
-Inv-loop service message at book tag lines selected₀ line₀ selected line = (least (fitsAt service (guideOf book) message at) line (suc (guideOf book .lines) - line) ≡ homeAt service (guideOf book) message at) × Looked service message at selected
+Inv-loop service message at book tags tag lines selected₀ line₀ selected line = (least (fitsAt service (guideOf book) message at) line (suc (guideOf book .lines) - line) ≡ homeAt service (guideOf book) message at) × Looked service message at selected
 
 abbrev μ-loop : tie.MeasureT-loop
-μ-loop service message at book tag lines selected₀ line₀ selected line = suc lines - line
+μ-loop service message at book tags tag lines selected₀ line₀ selected line = suc lines - line
 
 tag-at-requires : tie.Need-tag-at-requires Inv-loop μ-loop
 tag-at-requires c κs = search needs
@@ -32,13 +32,13 @@ add-line : tie.Need-add-line Inv-loop μ-loop
 add-line c = omega (arith, (c .loop-test .taken), (c .before .before .before .lines .ensures .1))
 
 has-tag-requires : tie.Need-has-tag-requires Inv-loop μ-loop
-has-tag-requires c κs = search needs
+has-tag-requires c κs = (c .before .before .before .before .before .before .before .pre .1)
 
 select-requires : tie.Need-select-requires Inv-loop μ-loop
-select-requires c κs = ((c .before .before .before .before .before .before .before .before .before .pre), (c .before .before .before .loop .inv .1))
+select-requires c κs = ((c .before .before .before .before .before .before .before .before .before .pre .0), (c .before .before .before .loop .inv .1))
 
 is-selected-requires : tie.Need-is-selected-requires Inv-loop μ-loop
-is-selected-requires c κs = ((c .before .before .before .before .before .before .before .before .before .before .pre), (c .select .ensures .0), (c .select .ensures .1))
+is-selected-requires c κs = ((c .before .before .before .before .before .before .before .before .before .before .pre .0), (c .select .ensures .0), (c .select .ensures .1))
 
 returns : tie.Need-returns Inv-loop μ-loop
 returns c = sym (least-here (fitsAt (c .before .before .before .before .before .before .before .before .before .before .before .before .args .service) (guideOf (c .before .before .before .before .before .before .before .before .before .before .before .before .args .book .now)) (c .before .before .before .before .before .before .before .before .before .before .before .before .args .message .now) (c .before .before .before .before .before .before .before .before .before .before .before .before .args .at)) (suc (guideOf (c .before .before .before .before .before .before .before .before .before .before .before .before .args .book .now) .lines)) (c .before .before .before .before .before .before .loop .line) (omega (arith, (c .before .before .before .before .before .loop-test .taken), (c .before .before .before .before .before .before .before .before .lines .ensures .0))) (fits-selected (guideOf (c .before .before .before .before .before .before .before .before .before .before .before .before .args .book .now)) (c .before .before .before .before .before .before .before .before .before .before .before .before .args .service) (c .before .before .before .before .before .before .before .before .before .before .before .before .args .message .now) (c .before .before .before .before .before .before .before .before .before .before .before .before .args .at) (c .before .before .before .before .before .before .loop .line) _ (c .before .before .before .before .before .before .before .before .before .tag-at .ensures .0) _ (c .before .before .before .before .has-tag .ensures) _ (c .before .before .before .if1 .taken) (c .before .is-selected .ensures) ∙ (c .if2 .taken))) ∙ (c .before .before .before .before .before .before .loop .inv .0)
