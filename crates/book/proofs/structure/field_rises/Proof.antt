@@ -1,4 +1,7 @@
--- `structure::field_rises` meets its contract: the tests are joined as the rule joins its parts.
+-- `structure::field_rises` meets its contract: the places that are read are those of the rule.
+use Prim.Native.Nat.{ℕ, _+_}
+use mathlib.Core.Path.{ap₂}
+use lib.Dec.{leb}
 use borrow.Author.Needs.{needs}
 use Rattle.book.specs.GoodBook.{fieldRises}
 use Rattle.book.proofs.structure.field_rises.Statement.{statement}
@@ -18,7 +21,7 @@ field-place-requires-2 c κs = search needs
 
 returns : tie.Need-returns
 unfolding fieldRises
-returns c = cc
+returns c = ap₂ (λ (x y : ℕ). leb (x + 1) y) (c .before .field-place .ensures .0) (c .field-place2 .ensures .0)
 
 pub field-rises-spec : {M : Type 1} → statement M
 field-rises-spec =
