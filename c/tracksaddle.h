@@ -69,6 +69,8 @@ void tracksaddle_find_component(const uint8_t *message, size_t message_len,
  * The answer depends on the bytes alone, so a book that has passed once need not
  * be checked again. Judging does not rely on this call either: it checks the book
  * itself and answers 1 for a malformed one.
+ *
+ * The tables that it works with are on the stack: leave it 256 KB there.
  */
 uint32_t tracksaddle_check_book(const uint8_t *book, size_t book_len);
 

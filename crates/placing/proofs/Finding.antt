@@ -18,7 +18,8 @@ use Rattle.reading.specs.Tag.{tagAt}
 use Rattle.reading.specs.declared.service.Service.{Service}
 use Rattle.reading.specs.declared.span.Span.{Span}
 use Rattle.reading.proofs.Seeking.{Inside, seek-inside}
-use Rattle.placing.specs.Fitting.{least, spells, isCode, isAnyCode, isSelectedAt, fitsAt, Looked}
+use Rattle.placing.specs.Fitting.{least, spells, isCode, isAnyCode, isSelectedAt, fitsAt}
+use Rattle.placing.specs.Kept.{Looked}
 use Rattle.placing.specs.declared.home.Selected.{Selected}
 
 -- ---- one code

@@ -1,11 +1,10 @@
 -- A segment's home. 01: "A segment's home is the segment line of its tag whose codes, if it has a selector, include the value
 -- there."
-use Prim.Native.Nat.{ℕ, zero, suc, _+_, _<_}
-use mathlib.Core.Path.{_≡_}
+use Prim.Native.Nat.{ℕ, zero, suc, _+_}
 use mathlib.Core.List.{List, [], _∷_}
 use mathlib.Core.Bool.{Bool, true, false, cond, not, _&&_, _||_}
 use lib.Dec.{eqb}
-use lib.ListN.{length, getD}
+use lib.ListN.{length}
 use Rattle.book.specs.Guide.{Guide}
 use Rattle.book.specs.View.{Line, lineOf}
 use Rattle.reading.specs.Message.{Component, Tag, Segment}
@@ -14,7 +13,6 @@ use Rattle.reading.specs.Machine.{seekFrom, sameComponent}
 use Rattle.reading.specs.Tag.{tagAt}
 use Rattle.reading.specs.Part.{bytesIn}
 use Rattle.reading.specs.declared.service.Service.{Service}
-use Rattle.placing.specs.declared.home.Selected.{Selected}
 
 -- ---- on the abstract segment
 
@@ -63,12 +61,3 @@ fitsAt s b bs at l = eqb (b .tag l) (tagAt bs at) && (not (eqb (b .kind l) 2) &&
 
 abbrev pub homeAt : Service → Guide → List ℕ → ℕ → ℕ
 homeAt s b bs at = least (fitsAt s b bs at) 1 (b .lines)
-
--- a component that has been looked up lies where it is said to lie; element 0 is none
-pub record Looked (s : Service) (bs : List ℕ) (at : ℕ) (x : Selected) : Type 0 where
-  pub lies : (x .element ≡ 0 → ⊥) → x .span ≡ seekFrom s bs (at + 3) (x .element) (x .component)
-
--- a table of the tags of lines 0 to 256
-pub record TagsOf (b : Guide) (tags : List ℕ) : Type 0 where
-  pub long : length tags ≡ 257
-  pub same : (l : ℕ) → l < 257 → getD tags l 0 ≡ b .tag l

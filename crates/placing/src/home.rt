@@ -5,7 +5,8 @@ ghost use mathlib.Core.Bool.{not, _&&_};
 ghost use lib.Dec.{eqb};
 ghost use lib.ListN.{length};
 ghost use Rattle.book.specs.Guide.{guideOf};
-ghost use Rattle.placing.specs.Fitting.{isCode, isAnyCode, isSelectedAt, homeAt, Looked, TagsOf};
+ghost use Rattle.placing.specs.Fitting.{isCode, isAnyCode, isSelectedAt, homeAt};
+ghost use Rattle.placing.specs.Kept.{Looked, TagsOf};
 use book::layout;
 use reading::lookup;
 use reading::service::Service;
@@ -119,7 +120,7 @@ pub fn tags_of(book: &[u8]) -> Tags
 {
     let mut tags = [0u32; TABLED];
     let mut line: u32 = 0;
-    while line < 257 {
+    while (line as usize) < TABLED {
         tags[line as usize] = layout::tag(book, line);
         line += 1;
     }
@@ -130,7 +131,7 @@ fn tag_of(book: &[u8], tags: &Tags, line: u32) -> u32
     requires { ⌜ TagsOf (guideOf (now book)) (now tags) ⌝ }
     ensures { λ r. ⌜ r ≡ guideOf (now (book .entry)) .tag line ⌝ }
 {
-    if line < 257 {
+    if (line as usize) < TABLED {
         return tags[line as usize];
     }
     layout::tag(book, line)

@@ -5,7 +5,8 @@ use native.Mathlib.Omega.{arith}
 use mathlib.Core.Path.{_≡_, sym, refl, _∙_}
 use borrow.Author.Needs.{needs}
 use Rattle.book.specs.Guide.{guideOf}
-use Rattle.placing.specs.Fitting.{least, fitsAt, homeAt, Looked}
+use Rattle.placing.specs.Fitting.{least, fitsAt, homeAt}
+use Rattle.placing.specs.Kept.{Looked}
 use Rattle.placing.proofs.Finding.{least-none, least-here, least-on, from-first, fits-not, fits-selected}
 use Rattle.placing.proofs.home.find_home.Statement.{statement}
 use Rattle.placing.proofs.home.find_home.Tie as tie

@@ -18,6 +18,9 @@ abbrev μ-loop : tie.MeasureT-loop
 loop-holds : tie.Need-loop-holds Inv-loop μ-loop
 loop-holds c = (omega arith, refl, λ k h. absurd (omega arith))
 
+cast-loop : tie.Need-cast-loop Inv-loop μ-loop
+cast-loop c = omega (arith, (c .loop .inv .0))
+
 tag-requires : tie.Need-tag-requires Inv-loop μ-loop
 tag-requires c κs = search needs
 
@@ -49,6 +52,7 @@ tags-of-spec =
     Inv-loop
     μ-loop
     loop-holds
+    cast-loop
     tag-requires
     cast-tags
     mul-tags
