@@ -21,6 +21,7 @@ use Rattle.reading.proofs.Seeking.{Inside, seek-inside}
 use Rattle.placing.specs.Fitting.{least, spells, isCode, isAnyCode, isSelectedAt, fitsAt}
 use Rattle.placing.specs.Kept.{Looked}
 use Rattle.placing.specs.declared.home.Selected.{Selected}
+use Rattle.placing.proofs.Loops.{none-left, one-less}
 
 -- ---- one code
 
@@ -121,12 +122,11 @@ module _ (test : ℕ → Bool) (end : ℕ) where
   least-next : (x : ℕ) → x < end → least test x (end - x) ≡ cond (test x) x (least test (x + 1) (end - (x + 1)))
   unfolding least
   least-next x h =
-      let z : end - x ≡ suc (end - (x + 1)) = omega arith in
-      ap (least test x) z ∙ ap (λ (y : ℕ). cond (test x) x (least test y (end - (x + 1)))) (sym (add-one x))
+      ap (least test x) (one-less x end h) ∙ ap (λ (y : ℕ). cond (test x) x (least test y (end - (x + 1)))) (sym (add-one x))
 
   pub least-none : (x : ℕ) → end ≤ x → least test x (end - x) ≡ 0
   unfolding least
-  least-none x h = let z : end - x ≡ 0 = omega arith in ap (least test x) z
+  least-none x h = ap (least test x) (none-left x end h)
 
   pub least-here : (x : ℕ) → x < end → test x ≡ true → least test x (end - x) ≡ x
   least-here x h e = least-next x h ∙ simp e

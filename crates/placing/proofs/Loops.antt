@@ -9,10 +9,11 @@ use borrow.Author.Tests.{lt-ltb, le-ltb, eq-eqb, ne-eqb}
 use Rattle.placing.specs.Plan.{Plan}
 use Rattle.placing.specs.Walking.{isWanted, isClear, isPassed}
 
-none-left : (x end : ℕ) → end ≤ x → end - x ≡ 0
+-- how many are left from x on
+pub none-left : (x end : ℕ) → end ≤ x → end - x ≡ 0
 none-left x end h = omega arith
 
-one-less : (x end : ℕ) → x < end → end - x ≡ suc (end - (x + 1))
+pub one-less : (x end : ℕ) → x < end → end - x ≡ suc (end - (x + 1))
 one-less x end h = omega arith
 
 pub wanted-at : (b : Plan) (d x r : ℕ) (q : Bool) → r ≡ b .depth x → r ≡ d → q ≡ b .required x → q ≡ isWanted b d x

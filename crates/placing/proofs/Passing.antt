@@ -27,12 +27,7 @@ use Rattle.placing.specs.Passes.{startsThen, startsFrom, homesFrom, firs
 use Rattle.placing.specs.declared.walk.Walk.{Walk}
 use Rattle.placing.specs.declared.passes.Placing.{Placing}
 use Rattle.placing.specs.declared.passes.Placing.the-variants.{NoHome}
-
-one-less : (k n : ℕ) → k < n → n - k ≡ suc (n - (k + 1))
-one-less k n h = omega arith
-
-none-left : (k n : ℕ) → n ≤ k → n - k ≡ 0
-none-left k n h = omega arith
+use Rattle.placing.proofs.Loops.{none-left, one-less}
 
 -- a segment that is found has its tag within the message
 pub found-within : (s : Service) (bs : List ℕ) (at : ℕ) (x : Span) (next : Cursor) → found.Segment x next ≡ nextSegment s bs at → at + 3 ≤ length bs

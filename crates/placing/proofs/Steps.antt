@@ -1,6 +1,7 @@
 -- The steps of the functions over a walk, one law for each way through.
 use Prim.Native.Nat.{ℕ, zero, suc, _+_, _-_, _≤_, _<_, _^_, pred}
 use native.Mathlib.Omega.{arith}
+use native.Mathlib.Numerals.{add-one}
 use mathlib.Core.Path.{_≡_, refl, sym, ap, ap₂, _∙_, subst}
 use mathlib.Core.List.{List, [], _∷_, _++_, append-assoc, append-nil}
 use mathlib.Core.Bool.{Bool, true, false, cond, not, _&&_, and-false}
@@ -16,9 +17,6 @@ use Rattle.placing.specs.Plan.{Plan, planIn}
 use Rattle.placing.specs.Walking.{Ready, StandsFor, admits, advanced, canClose, canCloseAll, canMove, entered, isAlive, isClear, isPassed, isPlaceable, isTrigger, level, openLines, raised, stacked, start, target, walked}
 use Rattle.placing.specs.Tree.{openedBy}
 
-plus-one : (x : ℕ) → x + 1 ≡ suc x
-plus-one x = omega arith
-
 stack-long : (w : Walk) → Ready w → length (openLines w) ≡ w .height
 stack-long w q = length-take (w .height) (w .levels) ∙ (let a = q .eight in let c = q .low in omega arith)
 
@@ -26,7 +24,7 @@ stack-at : (w : Walk) (j : ℕ) (z : Level) → j < w .height → getD (openLine
 stack-at w j z i = getD-take (w .height) (w .levels) j z i
 
 pub raise-same : (v : Level) (t : ℕ) → v .line ≡ t → level t (v .count + 1) ≡ raised v t
-raise-same v t e = ap (level t) (plus-one (v .count)) ∙ sym (simp (eq-eqb (v .line) t e))
+raise-same v t e = ap (level t) (add-one (v .count)) ∙ sym (simp (eq-eqb (v .line) t e))
 
 pub raise-new : (v : Level) (t : ℕ) → (v .line ≡ t → ⊥) → level t 1 ≡ raised v t
 raise-new v t e = sym (simp (ne-eqb (v .line) t e))
@@ -41,7 +39,7 @@ within-seven d o h y = subst (λ (x : Bool). d < cond x 7 8) y h
 
 level-stack : (w : Walk) (d : ℕ) (v : Level) → Ready w → d ≤ w .height → d < 8 → take (d + 1) (set (w .levels) d v) ≡ take d (openLines w) ++ (v ∷ [])
 level-stack w d v q i j =
-    ap (λ (x : ℕ). take x (set (w .levels) d v)) (plus-one d) ∙ take-suc-set (w .levels) d v (let e = q .eight in omega arith)
+    ap (λ (x : ℕ). take x (set (w .levels) d v)) (add-one d) ∙ take-suc-set (w .levels) d v (let e = q .eight in omega arith)
     ∙ ap (λ (x : List Level). x ++ (v ∷ [])) (sym (take-take d (w .height) (w .levels) i))
 
 pub one-level : (w : Walk) (d : ℕ) (v : Level) (o : Bool) (l : ℕ) → Ready w → d ≤ w .height → d < 8 → o ≡ false
@@ -67,14 +65,14 @@ module _ (b : Plan) where
   close-last d v lines e h = let z : b .lines - v .line ≡ 0 = omega arith in sym (ap (isClear b d (suc (v .line))) z)
 
   pub close-is : (d : ℕ) (v : Level) (r : Bool) → r ≡ isClear b d (v .line + 1) (suc (b .lines) - (v .line + 1)) → r ≡ canClose b d v
-  close-is d v r h = let z : suc (b .lines) - (v .line + 1) ≡ b .lines - v .line = omega arith in h ∙ ap₂ (isClear b d) (plus-one (v .line)) z
+  close-is d v r h = let z : suc (b .lines) - (v .line + 1) ≡ b .lines - v .line = omega arith in h ∙ ap₂ (isClear b d) (add-one (v .line)) z
 
   pub move-same : (v : Level) (t m : ℕ) → v .line ≡ t → m ≡ b .maximum t → ltb (v .count) m ≡ canMove b v t
   move-same v t m e f = ap (ltb (v .count)) f ∙ sym (simp (eq-eqb (v .line) t e))
 
   pub move-far : (v : Level) (t d : ℕ) (r : Bool) → (v .line ≡ t → ⊥) → v .line < t → d ≡ b .depth t → r ≡ isPassed b d (v .line + 1) (t - (v .line + 1)) → r ≡ canMove b v t
   move-far v t d r n i e h =
-      h ∙ ap (λ (x : ℕ). isPassed b x (v .line + 1) (t - (v .line + 1))) e ∙ ap (λ (x : ℕ). isPassed b (b .depth t) x (t - x)) (plus-one (v .line))
+      h ∙ ap (λ (x : ℕ). isPassed b x (v .line + 1) (t - (v .line + 1))) e ∙ ap (λ (x : ℕ). isPassed b (b .depth t) x (t - x)) (add-one (v .line))
       ∙ sym (simp (ne-eqb (v .line) t n, lt-ltb (v .line) t i))
 
   pub move-back : (v : Level) (t : ℕ) → (v .line ≡ t → ⊥) → t ≤ v .line → false ≡ canMove b v t
@@ -100,7 +98,7 @@ module _ (b : Plan) where
   pub shut-on : (w : Walk) (j : ℕ) (v : Level) (r : Bool) → Ready w → j < w .height → v ≡ getD (w .levels) j (level 0 0) → r ≡ isClear b j (suc (v .line)) (b .lines - v .line)
       → r ≡ true → canCloseAll b (j + 1) (drop (j + 1) (openLines w)) ≡ canCloseAll b j (drop j (openLines w))
   shut-on w j v r q i e h y =
-      ap (λ (x : ℕ). canCloseAll b x (drop x (openLines w))) (plus-one j) ∙ ap (λ (x : Bool). x && canCloseAll b (suc j) (drop (suc j) (openLines w))) (sym y) ∙ sym (shut-step w j v r q i e h)
+      ap (λ (x : ℕ). canCloseAll b x (drop x (openLines w))) (add-one j) ∙ ap (λ (x : Bool). x && canCloseAll b (suc j) (drop (suc j) (openLines w))) (sym y) ∙ sym (shut-step w j v r q i e h)
 
   pub shut-stop : (w : Walk) (j : ℕ) (v : Level) (r : Bool) → Ready w → j < w .height → v ≡ getD (w .levels) j (level 0 0) → r ≡ isClear b j (suc (v .line)) (b .lines - v .line)
       → r ≡ false → canCloseAll b j (drop j (openLines w)) ≡ false
@@ -127,7 +125,7 @@ module _ (b : Plan) where
 
     pub admits-shut : (v : Level) (m r : Bool) → d < w .height → v ≡ getD (w .levels) d (level 0 0) → m ≡ canMove b v t → m ≡ true → r ≡ canCloseAll b (d + 1) (drop (d + 1) (openLines w)) → r ≡ admits b (openLines w) t
     admits-shut v m r i g h y k =
-        k ∙ ap (λ (x : ℕ). canCloseAll b x (drop x (openLines w))) (plus-one d) ∙ sym (admits-low v m i g h ∙ ap (λ (x : Bool). x && canCloseAll b (suc d) (drop (suc d) (openLines w))) y)
+        k ∙ ap (λ (x : ℕ). canCloseAll b x (drop x (openLines w))) (add-one d) ∙ sym (admits-low v m i g h ∙ ap (λ (x : Bool). x && canCloseAll b (suc d) (drop (suc d) (openLines w))) y)
 
   -- is_trigger
   pub trigger-low : (l : ℕ) → l < 2 → false ≡ isTrigger b l
@@ -215,7 +213,7 @@ module _ (b : Plan) where
 
   pub open-here : (trail : List ℕ) (h n d : ℕ) (o : Bool) → o ≡ isTrigger b h → o ≡ true → d ≡ b .depth (target b h) → set trail (d + 1) n ≡ openedBy b trail h n
   unfolding openedBy
-  open-here trail h n d o e y k = ap (λ (x : ℕ). set trail x n) (plus-one d ∙ ap suc k) ∙ sym (simp (sym e ∙ y))
+  open-here trail h n d o e y k = ap (λ (x : ℕ). set trail x n) (add-one d ∙ ap suc k) ∙ sym (simp (sym e ∙ y))
 
   pub open-too-deep : (trail : List ℕ) (h n d : ℕ) → length trail ≡ 8 → d ≡ b .depth (target b h) → 7 ≤ d → trail ≡ openedBy b trail h n
   unfolding openedBy
