@@ -181,6 +181,17 @@ static inline void set_selector(int line, int element, int component, size_t fir
     set_codes(book.lines[line] + LINE_FIRST_CODE, first, count);
 }
 
+static inline void set_line_number(int line, int at, size_t number)
+{
+    put_number(book.lines[line] + at, number);
+}
+
+static inline void set_maximum(int line, uint32_t maximum)
+{
+    set_line_number(line, LINE_MAXIMUM, maximum & 0xFFFF);
+    set_line_number(line, LINE_MAXIMUM + 2, maximum >> 16);
+}
+
 /* A Pruefidentifikator, after all lines: required ones must, others may. */
 static inline void add_identifier(const char *digits)
 {

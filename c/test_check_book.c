@@ -105,20 +105,9 @@ static void check_book(struct source source, uint32_t expected)
 
 /* Changes to the book under test that take more than one assignment. */
 
-static void set_line_number(int line, int at, size_t number)
-{
-    put_number(book.lines[line] + at, number);
-}
-
 static void set_field_number(int field, int at, size_t number)
 {
     put_number(book.fields[field] + at, number);
-}
-
-static void set_maximum(int line, uint32_t maximum)
-{
-    set_line_number(line, LINE_MAXIMUM, maximum & 0xFFFF);
-    set_line_number(line, LINE_MAXIMUM + 2, maximum >> 16);
 }
 
 static void set_tag(int line, const char *tag)

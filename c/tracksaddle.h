@@ -1,13 +1,36 @@
-/* Tracksaddle for C callers: questions about one EDIFACT message and about the
- * guide book that it is judged by.
+/* Tracksaddle for C callers: judges one EDIFACT message against a guide book, and
+ * answers questions about the message and about the book.
  *
  * Every function here works on memory that the caller lends for the call. It
  * keeps nothing, allocates nothing and shares no state between calls, so calls
- * may run in parallel. Any bytes and any numbers are fine: nothing needs to be
- * checked first, and nothing can fail.
+ * may run in parallel, each over tables of its own. Any bytes and any numbers are
+ * fine: nothing needs to be checked first, and nothing can fail.
  *
  * Pointers: pass a valid non-null pointer even when a length is 0. A table that
- * is written to must not overlap the message.
+ * is written to must not overlap another table or any of the bytes handed over.
+ *
+ * In short, for a converter that wants a verdict on a message:
+ *
+ *   enum { MOST = 999999 };
+ *   static uint32_t starts[MOST], homes[MOST], parents[MOST];
+ *   uint32_t record[6];
+ *   uint8_t conditions[1] = {2};            // one condition, unknown
+ *   uint32_t number = tracksaddle_judge(message, message_len,
+ *                                       book, book_len,
+ *                                       conditions, 1,
+ *                                       starts, MOST, homes, MOST, parents, MOST,
+ *                                       record, 6);
+ *   if (number == 0) {
+ *       printf("accepted, %u segments\n", record[1]);
+ *       for (uint32_t i = 0; i < record[1]; i++) {
+ *           printf("segment %u at %u is line %u of the guide, in %u\n",
+ *                  i + 1, starts[i], homes[i], parents[i]);
+ *       }
+ *   } else {
+ *       printf("number %u, place %u, line %u, element %u, component %u, "
+ *              "condition %u\n", number, record[1], record[2], record[3],
+ *              record[4], record[5]);
+ *   }
  */
 #ifndef TRACKSADDLE_H
 #define TRACKSADDLE_H
@@ -18,6 +41,100 @@
 #ifdef __cplusplus
 extern "C" {
 #endif
+
+/* Judges one message, UNH to UNT, under a guide book.
+ *
+ *   message, message_len  the bytes; at most 16,777,216 of them and at most
+ *                         999,999 segments are judged, more are refused
+ *   book, book_len        a guide book; it is checked with every call
+ *   conditions,           what is known of each of the book's conditions, in
+ *   conditions_len        their order: 0 false, 1 true, 2 unknown. As many bytes
+ *                         as the book has conditions
+ *   starts, homes,        three lent tables. One with fewer entries than the
+ *   parents, their _len   message has segments is refused; longer is fine. A
+ *                         message has at most message_len / 4 segments
+ *   record, record_len    the lent table for the answer's six numbers
+ *
+ * Returns the number of the verdict, and writes the answer into record:
+ *
+ *   record[0]  number     as returned
+ *   record[1]  place      a segment's number, counted from 1, unless said
+ *                         otherwise below
+ *   record[2]  line       of the guide book, counted from 1
+ *   record[3]  element    counted from 1
+ *   record[4]  component  counted from 1
+ *   record[5]  condition  counted from 1
+ *
+ * As many of the six as fit are written, whatever the number: none if record_len
+ * is 0, the first three if it is 3. Nothing else in record changes. Entries that
+ * the table does not name are written as 0.
+ *
+ * The judge stops at the first fault in this order; n is the segment count:
+ *
+ *   number  given exactly when                      entries
+ *   ------  --------------------------------------  ------------------------------
+ *        1  the book is malformed                   -
+ *        2  the conditions are not as many as the   -
+ *           book says, or a byte is above 2
+ *        3  the message is empty or over            -
+ *           16,777,216 bytes
+ *        4  the message is not well-formed          place: the smallest offset k,
+ *                                                   counted from 0, such that the
+ *                                                   first k+1 bytes begin no
+ *                                                   well-formed message; if there
+ *                                                   is none, message_len
+ *        5  n is over 999,999                       -
+ *        6  a table (starts, homes, parents) has    place n
+ *           fewer than n entries
+ *        7  segment 1 is not UNH, segment n is      the smallest such place
+ *           not UNT, or another is either; always
+ *           if n is 1
+ *        8  UNT element 1, component 1, is not n    place n
+ *           in decimal without leading zeros
+ *        9  UNT element 2 differs from UNH          place n
+ *           element 1 (first components)
+ *       10  a segment has no line in the book       place of the first
+ *       11  the lines are not in an allowed         place: the smallest k such that
+ *           sequence                                the first k lines begin no
+ *                                                   allowed sequence
+ *       12  a field is at fault                     place of the first such segment,
+ *                                                   its line, and the smallest
+ *                                                   (element, component) at fault
+ *       13  element 1 component 2 of the            its place
+ *           Pruefidentifikator's segment is not
+ *           in the book
+ *       14  the row named below is broken whatever  place, line
+ *           the unknown conditions are
+ *       15  open: whether that row is broken        place, line, lowest unknown
+ *           depends on unknown conditions           condition of the row
+ *        0  none of these                           place n
+ *
+ * 14 and 15 speak of the first row, by line and then by instance of the line's
+ * parent, that some values of the unknown conditions break. Its place is the
+ * line's first segment in that instance if there is one, otherwise the segment
+ * that opens the instance (1 for the message itself).
+ *
+ * Numbers 1 to 11 change no entry of starts, homes and parents. The others, 0 and
+ * 12 to 15, write the first n entries of each and change none beyond:
+ *
+ *   starts[i]   the offset of segment i+1 in message, which is that of its tag
+ *   homes[i]    the segment's line in the guide book
+ *   parents[i]  the number of the segment that opens the innermost group instance
+ *               that holds segment i+1; for such an opening segment itself, that
+ *               of the instance around its own; 0 at the message's own level
+ *
+ * The four tables must not overlap each other or message, book and conditions.
+ * The answer depends on the arguments alone.
+ *
+ * The tables that it works with are on the stack: leave it 256 KB there.
+ */
+uint32_t tracksaddle_judge(const uint8_t *message, size_t message_len,
+                           const uint8_t *book, size_t book_len,
+                           const uint8_t *conditions, size_t conditions_len,
+                           uint32_t *starts, size_t starts_len,
+                           uint32_t *homes, size_t homes_len,
+                           uint32_t *parents, size_t parents_len,
+                           uint32_t *record, size_t record_len);
 
 /* Finds one component of one segment, as a part of the message.
  *

@@ -65,7 +65,7 @@ least-is test l (suc n) = go (test l) refl (least test (suc l) n) (least-is test
 
 -- ---- tags
 
-tag-small : (x : ℕ) → isTagByte x ≡ true → x < 256
+pub tag-small : (x : ℕ) → isTagByte x ≡ true → x < 256
 unfolding isTagByte
 tag-small x h = go (leb 0x30 x && leb x 0x39) refl h
   where
@@ -74,7 +74,7 @@ tag-small x h = go (leb 0x30 x && leb x 0x39) refl h
     go false e k = let r = leb-true x 0x5a (right (leb 0x41 x) (leb x 0x5a) k) in omega arith
 
 -- a number has one way to be written as three bytes
-three-bytes : (a b c x y z : ℕ) → (a < 256) × (b < 256) × (c < 256) → (x < 256) × (y < 256) × (z < 256)
+pub three-bytes : (a b c x y z : ℕ) → (a < 256) × (b < 256) × (c < 256) → (x < 256) × (y < 256) × (z < 256)
     → a + 256 * b + 65536 * c ≡ x + 256 * y + 65536 * z → (a ≡ x) × (b ≡ y) × (c ≡ z)
 three-bytes a b c x y z p q e = (omega (arith, p .0, p .1, p .2, q .0, q .1, q .2), omega (arith, p .0, p .1, p .2, q .0, q .1, q .2), omega (arith, p .0, p .1, p .2, q .0, q .1, q .2))
 
@@ -97,7 +97,7 @@ module _ (book : List ℕ) (good : GoodBook book) (l : ℕ) (from : 1 ≤ l) (to
   bytes = let r = line-tag book good l from to in (small (guideOf book .tagByte l 0) (r .0), small (guideOf book .tagByte l 1) (r .1 .0), small (guideOf book .tagByte l 2) (r .1 .1))
 
   -- three bytes are the tag exactly when the number is
-  same-tag : (t : Tag) → ValidTag t → eqb (guideOf book .tag l) (tagNumber t) ≡ hasTag t (lineOf (guideOf book) l .tag)
+  pub same-tag : (t : Tag) → ValidTag t → eqb (guideOf book .tag l) (tagNumber t) ≡ hasTag t (lineOf (guideOf book) l .tag)
   same-tag t v =
       same-test (eqb (guideOf book .tag l) (tagNumber t)) (hasTag t (lineOf (guideOf book) l .tag))
       (λ h. let e = eqb-true (guideOf book .tag l) (tagNumber t) h in

@@ -50,12 +50,12 @@ module _ (s : Service) (bs book : List ℕ) where
   starts-found k n at x next h e =
       ap (λ (m : ℕ). startsFrom s bs m at) (one-less k n h) ∙ ap (λ (f : Found). startsThen f (startsFrom s bs (n - (k + 1))) at) (sym e)
 
-  no-starts : (m at : ℕ) → found.Nothing ≡ nextSegment s bs at → startsFrom s bs m at ≡ []
+  pub no-starts : (m at : ℕ) → found.Nothing ≡ nextSegment s bs at → startsFrom s bs m at ≡ []
   unfolding startsFrom
   no-starts zero at e = refl
   no-starts (suc m) at e = ap (λ (f : Found). startsThen f (startsFrom s bs m) at) (sym e)
 
-  starts-end : (k n at : ℕ) → n ≤ k → startsFrom s bs (n - k) at ≡ []
+  pub starts-end : (k n at : ℕ) → n ≤ k → startsFrom s bs (n - k) at ≡ []
   unfolding startsFrom
   starts-end k n at h = ap (λ (m : ℕ). startsFrom s bs m at) (none-left k n h)
 

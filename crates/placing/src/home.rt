@@ -1,51 +1,18 @@
 // A segment's home: the least line that it fits. Every line is tried; only `find_home` knows that.
 ghost use mathlib.Core.Path.{_≡_};
-ghost use Prim.Native.Nat.{_+_, _≤_, _^_};
+ghost use Prim.Native.Nat.{_+_, _≤_};
 ghost use mathlib.Core.Bool.{not, _&&_};
 ghost use lib.Dec.{eqb};
 ghost use lib.ListN.{length};
 ghost use Rattle.book.specs.Guide.{guideOf};
-ghost use Rattle.placing.specs.Fitting.{isCode, isAnyCode, isSelectedAt, homeAt};
+ghost use Rattle.placing.specs.Fitting.{isSelectedAt, homeAt};
 ghost use Rattle.placing.specs.Kept.{Looked, TagsOf};
+use crate::code;
 use book::layout;
 use reading::lookup;
 use reading::service::Service;
 use reading::span::Span;
 use reading::tag;
-
-// Is this part of a message, as it is written, the code's value? No byte of a good code is ever released.
-fn is_code(book: &[u8], code: u32, part: &[u8]) -> bool
-    ensures { λ r. ⌜ r ≡ isCode (guideOf (now (book .entry))) code (now (part .entry)) ⌝ }
-{
-    let long = layout::code_length(book, code) as usize;
-    if part.len() != long {
-        return false;
-    }
-    let mut at: u32 = 0;
-    while (at as usize) < part.len() {
-        if part[at as usize] as u32 != layout::code_byte(book, code, at) {
-            return false;
-        }
-        at += 1;
-    }
-    true
-}
-
-fn is_any_code(book: &[u8], first: u32, count: u32, part: &[u8]) -> bool
-    requires { ⌜ first + count ≤ 2 ^ 17 ⌝ }
-    ensures { λ r. ⌜ r ≡ isAnyCode (guideOf (now (book .entry))) first count (now (part .entry)) ⌝ }
-{
-    let mut code = first;
-    let mut left = count;
-    while left > 0 {
-        if is_code(book, code, part) {
-            return true;
-        }
-        code += 1;
-        left -= 1;
-    }
-    false
-}
 
 // A component that has been looked up, and where it lies. Element 0 is none.
 pub struct Selected {
@@ -106,7 +73,7 @@ fn is_selected(
     let count = layout::code_count(book, line);
     let start = selected.span.start;
     let end = selected.span.end;
-    is_any_code(book, first, count, &message[start..end])
+    code::is_any_code(book, first, count, &message[start..end])
 }
 
 // Lines 0 to 256, which are all that a good book can have.

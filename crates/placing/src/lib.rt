@@ -1,5 +1,6 @@
 // Placing: which line of the guide book each segment of a message belongs to, and in which instance of which group.
-// 01, "Placing and judging", first paragraph; to be read in this order: home, walk, tree, passes.
+// 01, "Placing and judging", first paragraph; to be read in this order: code, home, walk, tree, passes.
+pub mod code;
 mod home;
 mod passes;
 mod tree;

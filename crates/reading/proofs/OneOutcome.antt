@@ -11,6 +11,8 @@ use Rattle.reading.proofs.machine.is_dead.Reads as is-dead
 use Rattle.reading.proofs.progress.read_segments.Reads as read-segments
 use Rattle.reading.proofs.progress.has_ended.Reads as has-ended
 use Rattle.reading.proofs.scan.scan.Reads as scan
+use Rattle.reading.proofs.bytes.is_text.Reads as is-text
+use Rattle.reading.proofs.machine.is_inside.Reads as is-inside
 use Rattle.reading.proofs.span.Span.empty_at.Reads as empty-at
 use Rattle.reading.proofs.cursor.segment_end.Reads as segment-end
 use Rattle.reading.proofs.cursor.Cursor.first.Reads as first
@@ -37,6 +39,9 @@ one-is-tag-byte-byte κs a r q x y m n = m ∙ sym n
 pub one-kind-of : One kind-of.Post
 one-kind-of κs a r q x y m n = m ∙ sym n
 
+pub one-is-text : One is-text.Post
+one-is-text κs a r q x y m n = m ∙ sym n
+
 pub one-step : One step.Post
 one-step κs a r q x y m n = m ∙ sym n
 
@@ -45,6 +50,9 @@ one-is-start κs a r q x y m n = m ∙ sym n
 
 pub one-is-dead : One is-dead.Post
 one-is-dead κs a r q x y m n = m ∙ sym n
+
+pub one-is-inside : One is-inside.Post
+one-is-inside κs a r q x y m n = m ∙ sym n
 
 pub one-read-segments : One read-segments.Post
 one-read-segments κs a r q x y m n = m ∙ sym n

@@ -6,3 +6,4 @@ pub mod Component
 pub mod Machine
 pub mod Part
 pub mod Tag
+pub mod Limits

@@ -1,8 +1,9 @@
 -- The reading as it is done, byte by byte: definitions that compute, total for any five service characters.
 -- The laws of proofs/ say that, under a good set, they mean what Message, WellFormed and Component say.
-use Prim.Native.Nat.{ℕ, _+_}
+use Prim.Native.Nat.{ℕ, _+_, _≤_}
+use mathlib.Core.Path.{_≡_}
 use mathlib.Core.List.{List, [], _∷_}
-use mathlib.Core.Bool.{Bool, true, false, _&&_}
+use mathlib.Core.Bool.{Bool, true, false, not, _&&_}
 use lib.Dec.{eqb, ltb}
 use lib.ListN.{length, drop}
 use Rattle.reading.specs.Service.{isData, isTagByte}
@@ -34,6 +35,10 @@ kindOf s b =
     (pick (eqb b (s .element)) Element
     (pick (eqb b (s .terminator)) Terminator
     (pick (isData b) Plain Other))))
+
+-- data that neither ends a segment nor releases the next byte
+unfoldable pub isText : Service → ℕ → Bool
+isText s b = not (eqb b (s .release)) && (not (eqb b (s .terminator)) && isData b)
 
 -- ---- a step
 
@@ -93,6 +98,15 @@ isDead Inside = false
 isDead Released = false
 isDead Dead = true
 
+abbrev pub isInside : State → Bool
+isInside Start = false
+isInside Second = false
+isInside Third = false
+isInside Tagged = false
+isInside Inside = true
+isInside Released = false
+isInside Dead = false
+
 -- ---- reading on: n segments have ended before the byte at `at`, and `most` are asked for
 
 abbrev pub ended : State → ℕ → ℕ
@@ -110,6 +124,11 @@ readOn s most p n at (b ∷ bs) =
 
 abbrev pub progressed : Service → List ℕ → ℕ → ℕ → Progress
 progressed s bs from most = readOn s most Start 0 from (drop from bs)
+
+-- from `to` on, in state q, reading goes as from `from` on in state p: no segment ends between them
+pub record Alike (s : Service) (bs : List ℕ) (p : State) (from : ℕ) (q : State) (to : ℕ) : Type 0 where
+  pub on : from ≤ to
+  pub same : (most n : ℕ) → readOn s most p n from (drop from bs) ≡ readOn s most q n to (drop to bs)
 
 unfoldable pub hasEnded : Progress → Bool
 hasEnded x = isStart (x .state) && ltb 0 (x .segments)

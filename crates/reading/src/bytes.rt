@@ -1,7 +1,7 @@
 // What one byte is: the only place that tests a byte's value.
 ghost use mathlib.Core.Path.{_≡_};
 ghost use Rattle.reading.specs.Service.{isData, isTagByte};
-ghost use Rattle.reading.specs.Machine.{kindOf};
+ghost use Rattle.reading.specs.Machine.{kindOf, isText};
 use crate::service::Service;
 
 // What a byte is, under given service characters.
@@ -66,4 +66,17 @@ pub fn kind_of(service: Service, byte: u8) -> Kind
         return Kind::Plain;
     }
     Kind::Other
+}
+
+// Is it data that neither ends a segment nor releases the next byte? Most bytes of a message are, separators among them.
+pub fn is_text(service: Service, byte: u8) -> bool
+    ensures { λ r. ⌜ r ≡ isText service byte ⌝ }
+{
+    if byte == service.release {
+        return false;
+    }
+    if byte == service.terminator {
+        return false;
+    }
+    is_data(byte)
 }

@@ -1,7 +1,7 @@
 // One byte more: the state that reading keeps between bytes, and how a byte moves it.
 ghost use mathlib.Core.Path.{_≡_};
 ghost use Rattle.reading.specs.Service.{isTagByte};
-ghost use Rattle.reading.specs.Machine.{afterTag, afterTagged, afterInside, afterReleased, stepped, isStart, isDead};
+ghost use Rattle.reading.specs.Machine.{afterTag, afterTagged, afterInside, afterReleased, stepped, isStart, isDead, isInside};
 use crate::bytes;
 use crate::bytes::Kind;
 use crate::service::Service;
@@ -107,5 +107,19 @@ pub fn is_dead(state: State) -> bool
         State::Inside => false,
         State::Released => false,
         State::Dead => true,
+    }
+}
+
+pub fn is_inside(state: State) -> bool
+    ensures { λ r. ⌜ r ≡ isInside state ⌝ }
+{
+    match state {
+        State::Start => false,
+        State::Second => false,
+        State::Third => false,
+        State::Tagged => false,
+        State::Inside => true,
+        State::Released => false,
+        State::Dead => false,
     }
 }

@@ -5,16 +5,62 @@ ghost use Rattle.tracksaddle.specs.Door.{asManyAsFit, partNumbers};
 ghost use Rattle.reading.specs.Machine.{componentSpan};
 ghost use Rattle.reading.specs.Service.{standard};
 ghost use Rattle.book.specs.GoodBook.{Judged};
+ghost use Rattle.judging.specs.Verdicts.{numbersOf};
+ghost use Rattle.judging.specs.Table.{judged, tablesAfter, tables, roomOf};
+use judging::Verdict;
 use reading::lookup;
 use reading::service::Service;
 
 // One number into a lent table, if it fits there.
-fn put(table: &mut [usize], at: usize, number: usize)
+fn put(table: &mut [u32], at: usize, number: u32)
     ensures { λ _. ⌜ now (table .exit) ≡ set (now (table .entry)) at number ⌝ }
 {
     if at < table.len() {
         table[at] = number;
     }
+}
+
+// The same for a table of sizes.
+fn put_size(table: &mut [usize], at: usize, size: usize)
+    ensures { λ _. ⌜ now (table .exit) ≡ set (now (table .entry)) at size ⌝ }
+{
+    if at < table.len() {
+        table[at] = size;
+    }
+}
+
+// The six numbers in 01's order.
+fn put_verdict(table: &mut [u32], verdict: Verdict)
+    ensures { λ _. ⌜ now (table .exit) ≡ asManyAsFit (numbersOf verdict) (now (table .entry)) ⌝ }
+{
+    put(table, 0, verdict.number);
+    put(table, 1, verdict.place.at);
+    put(table, 2, verdict.place.line);
+    put(table, 3, verdict.place.element);
+    put(table, 4, verdict.place.component);
+    put(table, 5, verdict.condition);
+}
+
+// The verdict on the message under the book, with what is known of the conditions: its number is returned, its six numbers
+// go into the lent record.
+#[no_mangle]
+pub extern "C" fn tracksaddle_judge(
+    message: &[u8],
+    book: &[u8],
+    conditions: &[u8],
+    starts: &mut [u32],
+    homes: &mut [u32],
+    parents: &mut [u32],
+    numbers: &mut [u32],
+) -> u32
+    ensures { λ r. ⌜ (r ≡ judged standard (now (message .entry)) (now (book .entry)) (now (conditions .entry)) (roomOf (tables (now (starts .entry)) (now (homes .entry)) (now (parents .entry)))) .number)
+        × (now (numbers .exit) ≡ asManyAsFit (numbersOf (judged standard (now (message .entry)) (now (book .entry)) (now (conditions .entry)) (roomOf (tables (now (starts .entry)) (now (homes .entry)) (now (parents .entry)))))) (now (numbers .entry)))
+        × (tables (now (starts .exit)) (now (homes .exit)) (now (parents .exit))
+        ≡ tablesAfter standard (now (message .entry)) (now (book .entry)) (now (conditions .entry)) (tables (now (starts .entry)) (now (homes .entry)) (now (parents .entry)))) ⌝ }
+{
+    let verdict = judging::judge(message, book, conditions, starts, homes, parents);
+    put_verdict(numbers, verdict);
+    verdict.number
 }
 
 // Where the component lies in the message: its offset and its length.
@@ -31,8 +77,8 @@ pub extern "C" fn tracksaddle_find_component(
     let span = lookup::component_span(Service::standard(), message, at, element, component);
     let start = span.start;
     let end = span.end;
-    put(part, 0, start);
-    put(part, 1, end - start);
+    put_size(part, 0, start);
+    put_size(part, 1, end - start);
 }
 
 // The table's number for the book alone: 1 malformed, 0 otherwise.

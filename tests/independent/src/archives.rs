@@ -14,6 +14,22 @@ mod declared {
             part_len: usize,
         );
         pub fn tracksaddle_check_book(book: *const u8, book_len: usize) -> u32;
+        pub fn tracksaddle_judge(
+            message: *const u8,
+            message_len: usize,
+            book: *const u8,
+            book_len: usize,
+            conditions: *const u8,
+            conditions_len: usize,
+            starts: *mut u32,
+            starts_len: usize,
+            homes: *mut u32,
+            homes_len: usize,
+            parents: *mut u32,
+            parents_len: usize,
+            record: *mut u32,
+            record_len: usize,
+        ) -> u32;
         pub fn probe_segments(message: *const u8, message_len: usize) -> usize;
         pub fn probe_bad_place(message: *const u8, message_len: usize) -> usize;
         pub fn probe_next(message: *const u8, message_len: usize, at: usize) -> usize;
@@ -50,7 +66,7 @@ pub fn find_component(
 ) {
     // SAFETY: pointers and lengths come from slices, which are valid for the
     // call and, one of them being mutable, do not overlap. Of the other calls
-    // below, all but the last lend only slices to be read.
+    // below, only two lend further slices to be written.
     unsafe {
         declared::tracksaddle_find_component(
             message.as_ptr(),
@@ -68,6 +84,37 @@ pub fn find_component(
 pub fn check_book(book: &[u8]) -> u32 {
     // SAFETY: as above.
     unsafe { declared::tracksaddle_check_book(book.as_ptr(), book.len()) }
+}
+
+/// The verdict's number. Writes tag offsets, line numbers and the tree into the
+/// first three tables, unless the number is 1 to 11, and the record's six
+/// numbers into the last one, as many as fit.
+pub fn judge(
+    message: &[u8],
+    book: &[u8],
+    conditions: &[u8],
+    [starts, homes, parents]: [&mut [u32]; 3],
+    record: &mut [u32],
+) -> u32 {
+    // SAFETY: as above; the four tables, each mutable, do not overlap either.
+    unsafe {
+        declared::tracksaddle_judge(
+            message.as_ptr(),
+            message.len(),
+            book.as_ptr(),
+            book.len(),
+            conditions.as_ptr(),
+            conditions.len(),
+            starts.as_mut_ptr(),
+            starts.len(),
+            homes.as_mut_ptr(),
+            homes.len(),
+            parents.as_mut_ptr(),
+            parents.len(),
+            record.as_mut_ptr(),
+            record.len(),
+        )
+    }
 }
 
 /// The number of segments, 0 if the message is not well-formed.

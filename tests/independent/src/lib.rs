@@ -8,6 +8,8 @@
 //!   ways to break each rule
 //! - [`placing`]: the independent placing of segments, random messages for a
 //!   book, and ways to break their order
+//! - [`judging`]: the independent judge, quick and once more by definitions,
+//!   random messages that fit a book, and ways to break them
 //! - [`machine`]: the state machine in ordinary Rust, the reading benchmark's
 //!   yardstick
 //! - [`archives`]: safe calls into the proved archives
@@ -27,8 +29,10 @@
 //! cargo run --release --bin compare_reading [SEED]
 //! cargo run --release --bin compare_book ../../books/k.bin ../../books/second.bin [SEED]
 //! cargo run --release --bin compare_placing ../../books/k.bin ../../books/second.bin [SEED]
+//! cargo run --release --bin compare_judge ../../books/k.bin ../../books/second.bin [SEED]
 //! cargo run --release --bin bench_reading
 //! cargo run --release --bin bench_placing
+//! cargo run --release --bin bench_judge
 //! ```
 
 pub mod archives;
@@ -38,6 +42,7 @@ pub mod bytes;
 pub mod described;
 pub mod enumeration;
 pub mod hex;
+pub mod judging;
 pub mod machine;
 pub mod placing;
 pub mod random;

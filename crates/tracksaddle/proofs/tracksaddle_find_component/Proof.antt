@@ -1,12 +1,13 @@
 -- `tracksaddle_find_component` meets its contract: two numbers put one after the other are as many of the two as fit.
 use Prim.Native.Nat.{_-_, _≤_}
 use native.Mathlib.Omega.{arith}
-use mathlib.Core.Path.{_≡_}
+use mathlib.Core.Path.{_≡_, refl}
 use lib.ListN.{set}
 use borrow.Author.Needs.{needs}
 use Rattle.reading.specs.Service.{standard}
 use Rattle.reading.proofs.Seeking.{span-inside}
-use Rattle.tracksaddle.proofs.Fitting.{two-puts}
+use Rattle.tracksaddle.specs.Door.{partNumbers}
+use Rattle.tracksaddle.proofs.Fitting.{puts-fit}
 use Rattle.tracksaddle.proofs.tracksaddle_find_component.Statement.{statement}
 use Rattle.tracksaddle.proofs.tracksaddle_find_component.Tie as tie
 
@@ -16,19 +17,19 @@ standard-requires c κs = search needs
 component-span-requires : tie.Need-component-span-requires
 component-span-requires c κs = search needs
 
-put-requires : tie.Need-put-requires
-put-requires c κs = search needs
+put-size-requires : tie.Need-put-size-requires
+put-size-requires c κs = search needs
 
-sub-put : tie.Need-sub-put
-sub-put c =
+sub-put-size : tie.Need-sub-put-size
+sub-put-size c =
     let args = c .before .before .before .before .before .before .before .before .before .args in
     let span = c .before .before .before .before .before .component-span .result in
     let ordered : span .start ≤ span .end =
     rw (c .before .before .before .before .before .component-span .ensures) (span-inside (c .before .before .before .before .before .before .standard .result) (args .message .now) (args .at) (args .element) (args .component) .ordered) in
     omega arith
 
-put-requires-2 : tie.Need-put-requires-2
-put-requires-2 c κs = search needs
+put-size-requires-2 : tie.Need-put-size-requires-2
+put-size-requires-2 c κs = search needs
 
 same-length : tie.Need-same-length
 same-length c = search needs
@@ -37,11 +38,11 @@ returns : tie.Need-returns
 returns c =
     let spanned = c .before .before .before .before .before .before .before .before .component-span in
     let span = spanned .result in
-    let once = c .before .before .before .before .before .before .put .last .0 in
-    let twice = c .before .before .put2 .last .0 in
-    let offset : once ≡ set (c .before .before .before .before .before .before .before .before .before .before .before .before .args .part .now) 0 (span .start) = c .before .before .before .before .before .before .put .ensures in
-    let long : twice ≡ set once 1 (span .end - span .start) = c .before .before .put2 .ensures in
-    rw (← (c .before .before .before .before .before .before .before .before .before .standard .ensures), ← (spanned .ensures)) (two-puts _ _ _ _ _ offset long)
+    let once = c .before .before .before .before .before .before .put-size .last .0 in
+    let twice = c .before .before .put-size2 .last .0 in
+    let offset : once ≡ set (c .before .before .before .before .before .before .before .before .before .before .before .before .args .part .now) 0 (span .start) = c .before .before .before .before .before .before .put-size .ensures in
+    let long : twice ≡ set once 1 (span .end - span .start) = c .before .before .put-size2 .ensures in
+    rw (← (c .before .before .before .before .before .before .before .before .before .standard .ensures), ← (spanned .ensures)) (puts-fit (partNumbers span) _ _ (_, offset, (_, long, refl)))
 
 pub tracksaddle-find-component-spec : {M : Type 1} → statement M
 tracksaddle-find-component-spec =
@@ -49,8 +50,8 @@ tracksaddle-find-component-spec =
     (tie.spec
     standard-requires
     component-span-requires
-    put-requires
-    sub-put
-    put-requires-2
+    put-size-requires
+    sub-put-size
+    put-size-requires-2
     same-length
     returns)

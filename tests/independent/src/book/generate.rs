@@ -311,7 +311,7 @@ fn segment_lines_before(book: &Book, index: usize) -> Vec<usize> {
 }
 
 /// "A count of 0 goes with a first of 0."
-fn range_or_none(range: Range<usize>) -> Range<usize> {
+pub fn range_or_none(range: Range<usize>) -> Range<usize> {
     if range.is_empty() {
         0..0
     } else {
@@ -321,7 +321,7 @@ fn range_or_none(range: Range<usize>) -> Range<usize> {
 
 /// Where a message needs a value to get past the envelope, the homes and the
 /// Prüfidentifikator.
-fn needed_places(book: &Book, index: usize) -> Vec<(u8, u8)> {
+pub fn needed_places(book: &Book, index: usize) -> Vec<(u8, u8)> {
     let mut places = Vec::new();
     if index == 0 {
         places.push((1, 1));

@@ -10,7 +10,7 @@ const SERVICE: Service = Service::STANDARD;
 
 /// The elements of a segment to be written: components as they are written,
 /// release bytes included.
-type Elements = Vec<Vec<Vec<u8>>>;
+pub type Elements = Vec<Vec<Vec<u8>>>;
 
 /// The shortest segment with this home and, if it has a selector, its first code.
 pub fn plain_segment(book: &Book, home: usize) -> Vec<u8> {
@@ -158,7 +158,7 @@ fn any_elements(random: &mut Random) -> Elements {
 }
 
 /// Puts a component in its place, with empty ones before it where none are.
-fn put(elements: &mut Elements, (element, component): (usize, usize), text: Vec<u8>) {
+pub fn put(elements: &mut Elements, (element, component): (usize, usize), text: Vec<u8>) {
     if elements.len() < element {
         elements.resize(element, vec![Vec::new()]);
     }
@@ -169,7 +169,7 @@ fn put(elements: &mut Elements, (element, component): (usize, usize), text: Vec<
     element[component - 1] = text;
 }
 
-fn write_segment(tag: Tag, elements: &Elements, text: &mut Vec<u8>) {
+pub fn write_segment(tag: Tag, elements: &Elements, text: &mut Vec<u8>) {
     text.extend(tag);
     for element in elements {
         text.push(SERVICE.element);

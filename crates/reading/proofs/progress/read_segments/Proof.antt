@@ -1,72 +1,35 @@
--- `progress::read_segments` meets its contract. The invariant, `Reading`: what is left to read is read as the whole is, and
--- no more segments than bytes have been read.
-use Prim.Native.Nat.{_-_}
+-- `progress::read_segments` meets its contract: behind a tag and the byte that opens an element, reading goes as before them.
 use native.Mathlib.Omega.{arith}
-use mathlib.Core.Logic.{⊎-elim}
-use mathlib.Core.Path.{_∙_, sym}
-use lib.ListN.{length}
+use mathlib.Core.Path.{_≡_, refl, sym, _∙_}
 use borrow.Author.Needs.{needs}
-use Rattle.reading.proofs.Progressing.{Reading, reading-begin, reading-bad, reading-enough, reading-segment, reading-on, reading-done}
 use Rattle.reading.proofs.progress.read_segments.Statement.{statement}
 use Rattle.reading.proofs.progress.read_segments.Tie as tie
 
-abbrev Inv-loop : tie.InvT-loop
-Inv-loop service message from most state₀ segments₀ at₀ state segments at = Reading service message from most state segments at
+opens-element-requires : tie.Need-opens-element-requires
+opens-element-requires c κs = search needs
 
-abbrev μ-loop : tie.MeasureT-loop
-μ-loop service message from most state₀ segments₀ at₀ state segments at = length message - at
+add-read-on : tie.Need-add-read-on
+add-read-on c = let long = (c .before .opens-element .ensures) (c .if1 .taken) .0 in omega arith
 
-loop-holds : tie.Need-loop-holds Inv-loop μ-loop
-loop-holds c = reading-begin _ _ _ _
+read-on-requires : tie.Need-read-on-requires
+read-on-requires c κs = search needs
 
-shared-slice-read-step : tie.Need-shared-slice-read-step Inv-loop μ-loop
-shared-slice-read-step c = omega arith
+returns : tie.Need-returns
+returns c = (c .read-on .ensures) ∙ sym ((c .before .before .opens-element .ensures) (c .before .if1 .taken) .1 .same (c .before .before .before .before .args .most) 0)
 
-step-requires : tie.Need-step-requires Inv-loop μ-loop
-step-requires c κs = search needs
+read-on-requires-2 : tie.Need-read-on-requires-2
+read-on-requires-2 c κs = search needs
 
-is-dead-requires : tie.Need-is-dead-requires Inv-loop μ-loop
-is-dead-requires c κs = search needs
-
-returns : tie.Need-returns Inv-loop μ-loop
-returns c = reading-bad (c .before .before .before .before .before .before .before .args .service) ((c .before .before .before .before .before .before .before .args .message .now)) (c .before .before .before .before .before .before .before .args .from) (c .before .before .before .before .before .before .before .args .most) (c .before .before .before .before .before .loop .state) (c .before .before .step .result) (c .before .before .before .before .before .loop .segments) (c .before .before .before .before .before .loop .at) (c .before .before .before .before .loop-test .taken) (c .before .before .before .before .before .loop .inv) (c .before .before .step .ensures) (sym (c .before .is-dead .ensures) ∙ (c .if1 .taken))
-
-is-start-requires : tie.Need-is-start-requires Inv-loop μ-loop
-is-start-requires c κs = search needs
-
-add-segments : tie.Need-add-segments Inv-loop μ-loop
-add-segments c = omega (arith, (c .before .before .before .before .before .before .before .loop .inv .few))
-
-returns-2 : tie.Need-returns-2 Inv-loop μ-loop
-returns-2 c = reading-enough (c .before .before .before .before .before .before .before .before .before .before .args .service) ((c .before .before .before .before .before .before .before .before .before .before .args .message .now)) (c .before .before .before .before .before .before .before .before .before .before .args .from) (c .before .before .before .before .before .before .before .before .before .before .args .most) (c .before .before .before .before .before .before .before .before .loop .state) (c .before .before .before .before .before .step .result) (c .before .before .before .before .before .before .before .before .loop .segments) (c .before .before .before .before .before .before .before .before .loop .at) (c .before .before .before .before .before .before .before .loop-test .taken) (c .before .before .before .before .before .before .before .before .loop .inv) (c .before .before .before .before .before .step .ensures) (sym (c .before .before .before .before .is-dead .ensures) ∙ (c .before .before .before .if1 .left)) (sym (c .before .before .is-start .ensures) ∙ (c .before .if2 .taken)) (c .if3 .taken)
-
-add-at : tie.Need-add-at Inv-loop μ-loop
-add-at c = omega arith
-
-loop-less : tie.Need-loop-less Inv-loop μ-loop
-loop-less c = omega arith
-
-loop-again : tie.Need-loop-again Inv-loop μ-loop
-loop-again c = ⊎-elim (λ w. rw (w .2) (reading-segment (c .before .before .before .before .before .before .before .before .before .args .service) ((c .before .before .before .before .before .before .before .before .before .args .message .now)) (c .before .before .before .before .before .before .before .before .before .args .from) (c .before .before .before .before .before .before .before .before .before .args .most) (c .before .before .before .before .before .before .before .loop .state) (c .before .before .before .before .step .result) (c .before .before .before .before .before .before .before .loop .segments) (c .before .before .before .before .before .before .before .loop .at) (c .before .before .before .before .before .before .loop-test .taken) (c .before .before .before .before .before .before .before .loop .inv) (c .before .before .before .before .step .ensures) (sym (c .before .before .before .is-dead .ensures) ∙ (c .before .before .if1 .left)) (sym (c .before .is-start .ensures) ∙ w .0 .taken) (w .1 .left))) (λ w. rw (w .1) (reading-on (c .before .before .before .before .before .before .before .before .before .args .service) ((c .before .before .before .before .before .before .before .before .before .args .message .now)) (c .before .before .before .before .before .before .before .before .before .args .from) (c .before .before .before .before .before .before .before .before .before .args .most) (c .before .before .before .before .before .before .before .loop .state) (c .before .before .before .before .step .result) (c .before .before .before .before .before .before .before .loop .segments) (c .before .before .before .before .before .before .before .loop .at) (c .before .before .before .before .before .before .loop-test .taken) (c .before .before .before .before .before .before .before .loop .inv) (c .before .before .before .before .step .ensures) (sym (c .before .before .before .is-dead .ensures) ∙ (c .before .before .if1 .left)) (sym (c .before .is-start .ensures) ∙ w .0 .left))) (c .if2 .came)
-
-returns-3 : tie.Need-returns-3 Inv-loop μ-loop
-returns-3 c = reading-done (c .before .before .before .args .service) ((c .before .before .before .args .message .now)) (c .before .before .before .args .from) (c .before .before .before .args .most) (c .before .loop .state) (c .before .loop .segments) (c .before .loop .at) (c .loop-test .left) (c .before .loop .inv)
+returns-2 : tie.Need-returns-2
+returns-2 c = search needs
 
 pub read-segments-spec : {M : Type 1} → statement M
 read-segments-spec =
     tie.close
     (tie.spec
-    Inv-loop
-    μ-loop
-    loop-holds
-    shared-slice-read-step
-    step-requires
-    is-dead-requires
+    opens-element-requires
+    add-read-on
+    read-on-requires
     returns
-    is-start-requires
-    add-segments
-    returns-2
-    add-at
-    loop-less
-    loop-again
-    returns-3)
+    read-on-requires-2
+    returns-2)

@@ -1,0 +1,30 @@
+-- `parts::opens_component` meets its contract, by the byte there.
+use borrow.Author.Needs.{needs}
+use Rattle.fields.proofs.Cutting.{component-here, component-out}
+use Rattle.fields.proofs.parts.opens_component.Statement.{statement}
+use Rattle.fields.proofs.parts.opens_component.Tie as tie
+
+shared-slice-read-kind-of : tie.Need-shared-slice-read-kind-of
+shared-slice-read-kind-of c = search needs
+
+kind-of-requires : tie.Need-kind-of-requires
+kind-of-requires c κs = search needs
+
+is-component-mark-requires : tie.Need-is-component-mark-requires
+is-component-mark-requires c κs = search needs
+
+returns : tie.Need-returns
+returns c = component-here (c .before .before .before .before .before .args .service) (c .before .before .before .before .before .args .message .now) (c .before .before .before .before .before .args .at) _ _ (c .before .before .before .if1 .taken) (c .before .kind-of .ensures) (c .is-component-mark .ensures)
+
+returns-2 : tie.Need-returns-2
+returns-2 c = component-out (c .before .before .args .service) (c .before .before .args .message .now) (c .before .before .args .at) (c .if1 .left)
+
+pub opens-component-spec : {M : Type 1} → statement M
+opens-component-spec =
+    tie.close
+    (tie.spec
+    shared-slice-read-kind-of
+    kind-of-requires
+    is-component-mark-requires
+    returns
+    returns-2)

@@ -1,0 +1,87 @@
+-- `parts::read_component` meets its contract. The invariant, `Free`: what has been read and what is left make the component, and so many
+-- of the bytes read are releases.
+use Prim.Native.Nat.{_-_}
+use native.Mathlib.Omega.{arith}
+use mathlib.Core.Path.{sym, _∙_}
+use lib.ListN.{length}
+use borrow.Author.Needs.{needs}
+use Rattle.fields.proofs.Cutting.{Free, free-begin, free-few, free-end, free-data, free-release, free-out, free-done}
+use Rattle.fields.proofs.parts.read_component.Statement.{statement}
+use Rattle.fields.proofs.parts.read_component.Tie as tie
+
+abbrev Inv-loop : tie.InvT-loop
+Inv-loop service message from releases₀ position₀ releases position = Free service message from releases position
+
+abbrev μ-loop : tie.MeasureT-loop
+μ-loop service message from releases₀ position₀ releases position = length message - position
+
+loop-holds : tie.Need-loop-holds Inv-loop μ-loop
+loop-holds c = free-begin (c .before .args .service) (c .before .args .message .now) (c .before .args .from) (c .before .pre)
+
+shared-slice-read-kind-of : tie.Need-shared-slice-read-kind-of Inv-loop μ-loop
+shared-slice-read-kind-of c = omega (arith, (c .before .loop-test .taken))
+
+kind-of-requires : tie.Need-kind-of-requires Inv-loop μ-loop
+kind-of-requires c κs = search needs
+
+add-position : tie.Need-add-position Inv-loop μ-loop
+add-position c = omega (arith, (c .before .before .loop-test .taken))
+
+is-mark-requires : tie.Need-is-mark-requires Inv-loop μ-loop
+is-mark-requires c κs = search needs
+
+returns : tie.Need-returns Inv-loop μ-loop
+returns c = free-end (c .before .before .before .before .before .before .before .args .service) (c .before .before .before .before .before .before .before .args .message .now) (c .before .before .before .before .before .before .before .args .from) (c .before .before .before .before .before .loop .releases) (c .before .before .before .before .before .loop .position) (c .before .before .before .before .loop-test .taken) _ (c .before .before .kind-of .ensures) (c .before .before .before .before .before .loop .inv) (sym (c .before .is-mark .ensures) ∙ (c .if1 .taken))
+
+is-release-requires : tie.Need-is-release-requires Inv-loop μ-loop
+is-release-requires c κs = search needs
+
+add-releases : tie.Need-add-releases Inv-loop μ-loop
+add-releases c = let n = free-few (c .before .before .before .before .before .before .before .before .before .args .service) (c .before .before .before .before .before .before .before .before .before .args .message .now) (c .before .before .before .before .before .before .before .before .before .args .from) (c .before .before .before .before .before .before .before .loop .releases) (c .before .before .before .before .before .before .before .loop .position) (c .before .before .before .before .before .before .loop-test .taken) _ (c .before .before .before .before .kind-of .ensures) (c .before .before .before .before .before .before .before .loop .inv) in omega (arith, (c .before .before .before .before .before .before .loop-test .taken))
+
+add-position-2 : tie.Need-add-position-2 Inv-loop μ-loop
+add-position-2 c = omega (arith, (c .if3 .taken))
+
+loop-less : tie.Need-loop-less Inv-loop μ-loop
+loop-less c = omega (arith, (c .before .before .before .before .before .before .before .loop-test .taken), (c .if3 .taken))
+
+loop-again : tie.Need-loop-again Inv-loop μ-loop
+loop-again c = free-release (c .before .before .before .before .before .before .before .before .before .before .args .service) (c .before .before .before .before .before .before .before .before .before .before .args .message .now) (c .before .before .before .before .before .before .before .before .before .before .args .from) (c .before .before .before .before .before .before .before .before .loop .releases) (c .before .before .before .before .before .before .before .before .loop .position) (c .before .before .before .before .before .before .before .loop-test .taken) _ (c .before .before .before .before .before .kind-of .ensures) (c .before .before .before .before .before .before .before .before .loop .inv) (sym (c .before .before .is-release .ensures) ∙ (c .before .if2 .taken)) (c .if3 .taken)
+
+loop-less-2 : tie.Need-loop-less-2 Inv-loop μ-loop
+loop-less-2 c = omega (arith, (c .before .before .before .before .before .before .before .loop-test .taken))
+
+loop-again-2 : tie.Need-loop-again-2 Inv-loop μ-loop
+loop-again-2 c = free-out (c .before .before .before .before .before .before .before .before .before .before .args .service) (c .before .before .before .before .before .before .before .before .before .before .args .message .now) (c .before .before .before .before .before .before .before .before .before .before .args .from) (c .before .before .before .before .before .before .before .before .loop .releases) (c .before .before .before .before .before .before .before .before .loop .position) (c .before .before .before .before .before .before .before .loop-test .taken) _ (c .before .before .before .before .before .kind-of .ensures) (c .before .before .before .before .before .before .before .before .loop .inv) (sym (c .before .before .is-release .ensures) ∙ (c .before .if2 .taken)) (c .if3 .left)
+
+loop-less-3 : tie.Need-loop-less-3 Inv-loop μ-loop
+loop-less-3 c = omega (arith, (c .before .before .before .before .before .before .loop-test .taken))
+
+loop-again-3 : tie.Need-loop-again-3 Inv-loop μ-loop
+loop-again-3 c = free-data (c .before .before .before .before .before .before .before .before .before .args .service) (c .before .before .before .before .before .before .before .before .before .args .message .now) (c .before .before .before .before .before .before .before .before .before .args .from) (c .before .before .before .before .before .before .before .loop .releases) (c .before .before .before .before .before .before .before .loop .position) (c .before .before .before .before .before .before .loop-test .taken) _ (c .before .before .before .before .kind-of .ensures) (c .before .before .before .before .before .before .before .loop .inv) (sym (c .before .before .before .is-mark .ensures) ∙ (c .before .before .if1 .left)) (sym (c .before .is-release .ensures) ∙ (c .if2 .left))
+
+returns-2 : tie.Need-returns-2 Inv-loop μ-loop
+returns-2 c = free-done (c .before .before .before .args .service) (c .before .before .before .args .message .now) (c .before .before .before .args .from) (c .before .loop .releases) (c .before .loop .position) (c .loop-test .left) (c .before .loop .inv)
+
+pub read-component-spec : {M : Type 1} → statement M
+read-component-spec =
+    tie.close
+    (tie.spec
+    Inv-loop
+    μ-loop
+    loop-holds
+    shared-slice-read-kind-of
+    kind-of-requires
+    add-position
+    is-mark-requires
+    returns
+    is-release-requires
+    add-releases
+    add-position-2
+    loop-less
+    loop-again
+    loop-less-2
+    loop-again-2
+    loop-less-3
+    loop-again-3
+    returns-2)

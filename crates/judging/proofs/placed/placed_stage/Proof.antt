@@ -1,0 +1,54 @@
+-- `placed::placed_stage` meets its contract: element and component of a fault fit, since the message is not longer than 01 allows.
+use native.Mathlib.Omega.{arith}
+use mathlib.Core.Path.{sym, ap, _∙_}
+use lib.ListN.{length, take}
+use Rattle.book.specs.Guide.{guideOf}
+use Rattle.rules.specs.Identifiers.{identified}
+use Rattle.fields.specs.declared.passes.FirstFault.{FirstFault}
+use Rattle.judging.specs.Table.{identifierIn, fieldsVerdict}
+use Rattle.judging.specs.Placed.{foundVerdict}
+use Rattle.judging.proofs.PlacedStages.{in-reach}
+use borrow.Author.Needs.{needs}
+use Rattle.judging.proofs.placed.placed_stage.Statement.{statement}
+use Rattle.judging.proofs.placed.placed_stage.Tie as tie
+
+test-fields-requires : tie.Need-test-fields-requires
+test-fields-requires c κs = search needs
+
+enum-known-place : tie.Need-enum-known-place
+enum-known-place c = search needs
+
+cast-fault-verdict : tie.Need-cast-fault-verdict
+cast-fault-verdict c = let h = in-reach (length ((c .before .before .before .before .before .before .before .before .before .args .message .now))) _ _ _ _ _ ((c .before .before .before .test-fields .ensures .1)) ((c .before .place .given .1)) in let x = h .0 in let y = ((c .before .before .before .before .before .before .before .before .before .pre)) in omega arith
+
+cast-fault-verdict-2 : tie.Need-cast-fault-verdict-2
+cast-fault-verdict-2 c = let h = in-reach (length ((c .before .before .before .before .before .before .before .before .before .args .message .now))) _ _ _ _ _ ((c .before .before .before .test-fields .ensures .1)) ((c .before .place .given .1)) in let x = h .1 in let y = ((c .before .before .before .before .before .before .before .before .before .pre)) in omega arith
+
+fault-verdict-requires : tie.Need-fault-verdict-requires
+fault-verdict-requires c κs = search needs
+
+enum-told : tie.Need-enum-told
+enum-told c = search needs
+
+rules-stage-requires : tie.Need-rules-stage-requires
+rules-stage-requires c κs = search needs
+
+returns : tie.Need-returns
+returns c = ((c .fault-verdict .ensures)) ∙ ap (λ (f : FirstFault). fieldsVerdict f (foundVerdict (guideOf ((c .before .before .before .before .before .before .before .before .before .before .args .book .now))) ((c .before .before .before .before .before .before .before .before .before .before .args .conditions .now)) ((c .before .before .before .before .before .before .before .before .before .before .args .segments)) (take ((c .before .before .before .before .before .before .before .before .before .before .args .segments)) ((c .before .before .before .before .before .before .before .before .before .before .args .homes .now))) (identified (guideOf ((c .before .before .before .before .before .before .before .before .before .before .args .book .now))) (identifierIn ((c .before .before .before .before .before .before .before .before .before .before .args .service)) (guideOf ((c .before .before .before .before .before .before .before .before .before .before .args .book .now))) ((c .before .before .before .before .before .before .before .before .before .before .args .message .now)) (take ((c .before .before .before .before .before .before .before .before .before .before .args .segments)) ((c .before .before .before .before .before .before .before .before .before .before .args .starts .now))) (take ((c .before .before .before .before .before .before .before .before .before .before .args .segments)) ((c .before .before .before .before .before .before .before .before .before .before .args .homes .now))))))) (sym ((c .before .before .place .given .1)) ∙ ((c .before .before .before .before .test-fields .ensures .0)))
+
+returns-2 : tie.Need-returns-2
+returns-2 c = ((c .rules-stage .ensures)) ∙ ap (λ (f : FirstFault). fieldsVerdict f (foundVerdict (guideOf ((c .before .before .before .before .before .before .before .before .before .args .book .now))) ((c .before .before .before .before .before .before .before .before .before .args .conditions .now)) ((c .before .before .before .before .before .before .before .before .before .args .segments)) (take ((c .before .before .before .before .before .before .before .before .before .args .segments)) ((c .before .before .before .before .before .before .before .before .before .args .homes .now))) (identified (guideOf ((c .before .before .before .before .before .before .before .before .before .args .book .now))) (identifierIn ((c .before .before .before .before .before .before .before .before .before .args .service)) (guideOf ((c .before .before .before .before .before .before .before .before .before .args .book .now))) ((c .before .before .before .before .before .before .before .before .before .args .message .now)) (take ((c .before .before .before .before .before .before .before .before .before .args .segments)) ((c .before .before .before .before .before .before .before .before .before .args .starts .now))) (take ((c .before .before .before .before .before .before .before .before .before .args .segments)) ((c .before .before .before .before .before .before .before .before .before .args .homes .now))))))) (sym ((c .before .enum-told .given .1)) ∙ ((c .before .before .before .test-fields .ensures .0)))
+
+pub placed-stage-spec : {M : Type 1} → statement M
+placed-stage-spec =
+    tie.close
+    (tie.spec
+    test-fields-requires
+    enum-known-place
+    cast-fault-verdict
+    cast-fault-verdict-2
+    fault-verdict-requires
+    enum-told
+    rules-stage-requires
+    returns
+    returns-2)

@@ -1,0 +1,69 @@
+-- `placed::rules_stage` meets its contract: the component that is looked up is the Prüfidentifikator.
+use mathlib.Core.Path.{_∙_}
+use lib.ListN.{take}
+use Rattle.book.specs.Guide.{guideOf}
+use Rattle.judging.proofs.PlacedStages.{foreign-found, known-found}
+use borrow.Author.Needs.{needs}
+use Rattle.judging.proofs.placed.rules_stage.Statement.{statement}
+use Rattle.judging.proofs.placed.rules_stage.Tie as tie
+
+carrier-requires : tie.Need-carrier-requires
+carrier-requires c κs = search needs
+
+place-of-requires : tie.Need-place-of-requires
+place-of-requires c κs = search needs
+
+entry-for-requires : tie.Need-entry-for-requires
+entry-for-requires c κs = search needs
+
+entry-at-requires : tie.Need-entry-at-requires
+entry-at-requires c κs = search needs
+
+cast-at : tie.Need-cast-at
+cast-at c = search needs
+
+find-component-requires : tie.Need-find-component-requires
+find-component-requires c κs = search needs
+
+find-identifier-requires : tie.Need-find-identifier-requires
+find-identifier-requires c κs = search needs
+
+enum-told : tie.Need-enum-told
+enum-told c = search needs
+
+answer-requires : tie.Need-answer-requires
+answer-requires c κs = search needs
+
+enum-known-known : tie.Need-enum-known-known
+enum-known-known c = search needs
+
+first-row-requires : tie.Need-first-row-requires
+first-row-requires c κs = search needs
+
+row-verdict-requires : tie.Need-row-verdict-requires
+row-verdict-requires c κs = search needs
+
+returns : tie.Need-returns
+returns c = ((c .answer .ensures)) ∙ foreign-found ((c .before .before .before .before .before .before .before .before .before .before .before .before .before .before .args .service)) (guideOf ((c .before .before .before .before .before .before .before .before .before .before .before .before .before .before .args .book .now))) ((c .before .before .before .before .before .before .before .before .before .before .before .before .before .before .args .message .now)) (take ((c .before .before .before .before .before .before .before .before .before .before .before .before .before .before .args .segments)) ((c .before .before .before .before .before .before .before .before .before .before .before .before .before .before .args .starts .now))) (take ((c .before .before .before .before .before .before .before .before .before .before .before .before .before .before .args .segments)) ((c .before .before .before .before .before .before .before .before .before .before .before .before .before .before .args .homes .now))) _ _ _ _ _ _ ((c .before .before .before .before .before .before .before .before .carrier .ensures .0)) ((c .before .before .before .before .before .before .before .place-of .ensures)) ((c .before .before .before .before .before .before .entry-for .ensures)) ((c .before .before .before .before .before .entry-at .ensures)) ((c .before .before .before .before .find-component .ensures .bytes)) ((c .before .before .before .find-identifier .ensures)) ((c .before .before .before .before .before .before .before .before .before .before .before .before .before .before .args .conditions .now)) ((c .before .before .before .before .before .before .before .before .before .before .before .before .before .before .args .segments)) ((c .before .enum-told .given .1))
+
+returns-2 : tie.Need-returns-2
+returns-2 c = ((c .row-verdict .ensures)) ∙ known-found ((c .before .before .before .before .before .before .before .before .before .before .before .before .before .before .before .before .args .service)) (guideOf ((c .before .before .before .before .before .before .before .before .before .before .before .before .before .before .before .before .args .book .now))) ((c .before .before .before .before .before .before .before .before .before .before .before .before .before .before .before .before .args .message .now)) (take ((c .before .before .before .before .before .before .before .before .before .before .before .before .before .before .before .before .args .segments)) ((c .before .before .before .before .before .before .before .before .before .before .before .before .before .before .before .before .args .starts .now))) (take ((c .before .before .before .before .before .before .before .before .before .before .before .before .before .before .before .before .args .segments)) ((c .before .before .before .before .before .before .before .before .before .before .before .before .before .before .before .before .args .homes .now))) _ _ _ _ _ _ ((c .before .before .before .before .before .before .before .before .before .before .carrier .ensures .0)) ((c .before .before .before .before .before .before .before .before .before .place-of .ensures)) ((c .before .before .before .before .before .before .before .before .entry-for .ensures)) ((c .before .before .before .before .before .before .before .entry-at .ensures)) ((c .before .before .before .before .before .before .find-component .ensures .bytes)) ((c .before .before .before .before .before .find-identifier .ensures)) ((c .before .before .before .before .before .before .before .before .before .before .before .before .before .before .before .before .args .conditions .now)) ((c .before .before .before .before .before .before .before .before .before .before .before .before .before .before .before .before .args .segments)) _ _ ((c .before .before .before .known .given .1)) ((c .before .first-row .ensures))
+
+pub rules-stage-spec : {M : Type 1} → statement M
+rules-stage-spec =
+    tie.close
+    (tie.spec
+    carrier-requires
+    place-of-requires
+    entry-for-requires
+    entry-at-requires
+    cast-at
+    find-component-requires
+    find-identifier-requires
+    enum-told
+    answer-requires
+    enum-known-known
+    first-row-requires
+    row-verdict-requires
+    returns
+    returns-2)

@@ -1,0 +1,40 @@
+// A component's value among codes of the book: a line's selector asks it, and a field.
+ghost use mathlib.Core.Path.{_≡_};
+ghost use Prim.Native.Nat.{_+_, _≤_, _^_};
+ghost use Rattle.book.specs.Guide.{guideOf};
+ghost use Rattle.placing.specs.Fitting.{isCode, isAnyCode};
+use book::layout;
+
+// Is this part of a message, as it is written, the code's value? No byte of a good code is ever released.
+fn is_code(book: &[u8], code: u32, part: &[u8]) -> bool
+    ensures { λ r. ⌜ r ≡ isCode (guideOf (now (book .entry))) code (now (part .entry)) ⌝ }
+{
+    let long = layout::code_length(book, code) as usize;
+    if part.len() != long {
+        return false;
+    }
+    let mut at: u32 = 0;
+    while (at as usize) < part.len() {
+        if part[at as usize] as u32 != layout::code_byte(book, code, at) {
+            return false;
+        }
+        at += 1;
+    }
+    true
+}
+
+pub fn is_any_code(book: &[u8], first: u32, count: u32, part: &[u8]) -> bool
+    requires { ⌜ first + count ≤ 2 ^ 17 ⌝ }
+    ensures { λ r. ⌜ r ≡ isAnyCode (guideOf (now (book .entry))) first count (now (part .entry)) ⌝ }
+{
+    let mut code = first;
+    let mut left = count;
+    while left > 0 {
+        if is_code(book, code, part) {
+            return true;
+        }
+        code += 1;
+        left -= 1;
+    }
+    false
+}

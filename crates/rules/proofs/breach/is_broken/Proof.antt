@@ -1,0 +1,29 @@
+-- `breach::is_broken` meets its contract: mode by mode. Assumes nothing.
+use borrow.Author.Tests.{eq-eqb, ne-eqb}
+use Rattle.rules.proofs.breach.is_broken.Statement.{statement}
+use Rattle.rules.proofs.breach.is_broken.Tie as tie
+
+returns : tie.Need-returns
+returns c = simp (eq-eqb (c .before .args .mode) 0 (c .if1 .taken))
+
+returns-2 : tie.Need-returns-2
+returns-2 c = simp (ne-eqb (c .before .before .args .mode) 0 (c .before .if1 .left), eq-eqb (c .before .before .args .mode) 1 (c .if2 .taken))
+
+returns-3 : tie.Need-returns-3
+returns-3 c = simp (ne-eqb (c .before .before .before .before .args .mode) 0 (c .before .before .before .if1 .left), ne-eqb (c .before .before .before .before .args .mode) 1 (c .before .before .if2 .left), eq-eqb (c .before .before .before .before .args .mode) 3 (c .before .if3 .taken), (c .if4 .taken))
+
+returns-4 : tie.Need-returns-4
+returns-4 c = simp (ne-eqb (c .before .before .before .before .args .mode) 0 (c .before .before .before .if1 .left), ne-eqb (c .before .before .before .before .args .mode) 1 (c .before .before .if2 .left), eq-eqb (c .before .before .before .before .args .mode) 3 (c .before .if3 .taken), (c .if4 .left))
+
+returns-5 : tie.Need-returns-5
+returns-5 c = simp (ne-eqb (c .before .before .before .before .before .args .mode) 0 (c .before .before .before .before .if1 .left), ne-eqb (c .before .before .before .before .before .args .mode) 1 (c .before .before .before .if2 .left), ne-eqb (c .before .before .before .before .before .args .mode) 3 (c .before .before .if3 .left), eq-eqb (c .before .before .before .before .before .args .mode) 4 (c .before .if5 .taken), (c .if6 .taken))
+
+returns-6 : tie.Need-returns-6
+returns-6 c = simp (ne-eqb (c .before .before .before .before .before .args .mode) 0 (c .before .before .before .before .if1 .left), ne-eqb (c .before .before .before .before .before .args .mode) 1 (c .before .before .before .if2 .left), ne-eqb (c .before .before .before .before .before .args .mode) 3 (c .before .before .if3 .left), eq-eqb (c .before .before .before .before .before .args .mode) 4 (c .before .if5 .taken), (c .if6 .left))
+
+returns-7 : tie.Need-returns-7
+returns-7 c = simp (ne-eqb (c .before .before .before .before .args .mode) 0 (c .before .before .before .if1 .left), ne-eqb (c .before .before .before .before .args .mode) 1 (c .before .before .if2 .left), ne-eqb (c .before .before .before .before .args .mode) 3 (c .before .if3 .left), ne-eqb (c .before .before .before .before .args .mode) 4 (c .if5 .left))
+
+pub is-broken-spec : {M : Type 1} → statement M
+is-broken-spec =
+    tie.close (tie.spec returns returns-2 returns-3 returns-4 returns-5 returns-6 returns-7)

@@ -1,0 +1,31 @@
+-- `watch::watch_line` meets its contract: from what its parts ensure. Assumes nothing.
+use Rattle.book.specs.Guide.{guideOf}
+use Rattle.rules.proofs.Watching.{watches}
+use borrow.Author.Needs.{needs}
+use Rattle.rules.proofs.watch.watch_line.Statement.{statement}
+use Rattle.rules.proofs.watch.watch_line.Tie as tie
+
+trigger-of-requires : tie.Need-trigger-of-requires
+trigger-of-requires c κs = search needs
+
+sign-of-requires : tie.Need-sign-of-requires
+sign-of-requires c κs = search needs
+
+weigh-line-requires : tie.Need-weigh-line-requires
+weigh-line-requires c κs = search needs
+
+weigh-line-requires-2 : tie.Need-weigh-line-requires-2
+weigh-line-requires-2 c κs = search needs
+
+returns : tie.Need-returns
+returns c = watches (guideOf (c .before .before .before .before .before .before .args .book .now)) (c .before .before .before .before .before .before .args .identifier) (c .before .before .before .before .before .before .args .conditions .now) (c .before .before .before .before .before .before .args .line) (c .before .before .before .trigger-of .ensures) (c .before .before .sign-of .ensures) (c .before .weigh-line .ensures) (c .weigh-line2 .ensures)
+
+pub watch-line-spec : {M : Type 1} → statement M
+watch-line-spec =
+    tie.close
+    (tie.spec
+    trigger-of-requires
+    sign-of-requires
+    weigh-line-requires
+    weigh-line-requires-2
+    returns)

@@ -1,0 +1,47 @@
+-- `tracksaddle_judge` meets its contract: it hands on what `judge` promises, and writes that verdict's numbers.
+use mathlib.Core.Path.{ap, _∙_}
+use borrow.Author.Needs.{needs}
+use Rattle.judging.specs.Verdicts.{numbersOf}
+use Rattle.judging.specs.declared.verdict.Verdict.{Verdict}
+use Rattle.tracksaddle.specs.Door.{asManyAsFit}
+use Rattle.tracksaddle.proofs.tracksaddle_judge.Statement.{statement}
+use Rattle.tracksaddle.proofs.tracksaddle_judge.Tie as tie
+
+judge-requires : tie.Need-judge-requires
+judge-requires c κs = search needs
+
+put-verdict-requires : tie.Need-put-verdict-requires
+put-verdict-requires c κs = search needs
+
+same-length : tie.Need-same-length
+same-length c = search needs
+
+same-length-2 : tie.Need-same-length-2
+same-length-2 c = search needs
+
+same-length-3 : tie.Need-same-length-3
+same-length-3 c = search needs
+
+same-length-4 : tie.Need-same-length-4
+same-length-4 c = search needs
+
+returns : tie.Need-returns
+returns c =
+    let judge = c .before .before .before .before .before .before .before .before .before .before .judge in
+    let lent = c .before .before .before .before .before .before .before .before .before .before .before .before .before .before .before .before .before .before .before .before .before .args .numbers .now in (
+      ap (λ (v : Verdict). v .number) (judge .ensures .0),
+      c .before .before .put-verdict .ensures ∙ ap (λ (v : Verdict). asManyAsFit (numbersOf v) lent) (judge .ensures .0),
+      judge .ensures .1,
+    )
+
+pub tracksaddle-judge-spec : {M : Type 1} → statement M
+tracksaddle-judge-spec =
+    tie.close
+    (tie.spec
+    judge-requires
+    put-verdict-requires
+    same-length
+    same-length-2
+    same-length-3
+    same-length-4
+    returns)

@@ -1,0 +1,65 @@
+//! Compares the proved judge with the independent one: the number, the record
+//! and every entry of the lent tables, over random good and broken books,
+//! messages and condition lists. The independent verdict is in turn compared
+//! with that of a plainer judge over every filling of the unknown conditions,
+//! which is demand 3. Stops at the first difference with exit status 1, and
+//! fails if a number was met too seldom.
+//!
+//! `compare_judge BOOK BOOK [SEED]`: two good books, and where random ones
+//! begin.
+
+mod comparison;
+mod generated;
+mod large;
+
+use comparison::Comparison;
+use independent::arguments;
+use independent::book::{check, Book};
+use independent::random::Random;
+use std::process::ExitCode;
+
+/// Each number must have been met so often.
+const LEAST: u64 = 2_000;
+const LEAST_IN_ALL: u64 = 200_000;
+
+fn main() -> ExitCode {
+    let Some(arguments) = arguments::books_and_seed() else {
+        eprintln!("usage: compare_judge BOOK BOOK [SEED], two files and a decimal number");
+        return ExitCode::from(2);
+    };
+    let mut given = Vec::new();
+    for path in &arguments.books {
+        match read_book(path) {
+            Ok(book) => given.push((path.clone(), book)),
+            Err(error) => {
+                eprintln!("compare_judge: {path}: {error}");
+                return ExitCode::from(2);
+            }
+        }
+    }
+    println!("compare_judge: seed {}", arguments.seed);
+    let mut comparison = Comparison::new(arguments.seed);
+    let random = &mut Random::from_seed(arguments.seed);
+    generated::compare_all(&mut comparison, random, &given);
+    large::compare_all(&mut comparison);
+    conclude(&comparison)
+}
+
+fn read_book(path: &str) -> Result<Book, String> {
+    let bytes = std::fs::read(path).map_err(|error| error.to_string())?;
+    check(&bytes).map_err(|fault| format!("malformed: {fault:?}"))
+}
+
+fn conclude(comparison: &Comparison) -> ExitCode {
+    comparison.print();
+    if let Some(number) = comparison.first_below(LEAST) {
+        println!("compare_judge: number {number} was met fewer than {LEAST} times");
+        return ExitCode::FAILURE;
+    }
+    if comparison.total() < LEAST_IN_ALL {
+        println!("compare_judge: fewer than {LEAST_IN_ALL} cases");
+        return ExitCode::FAILURE;
+    }
+    println!("compare_judge: {} cases, 0 differences", comparison.total());
+    ExitCode::SUCCESS
+}
