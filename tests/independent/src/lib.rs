@@ -33,6 +33,7 @@
 //! cargo run --release --bin bench_reading
 //! cargo run --release --bin bench_placing
 //! cargo run --release --bin bench_judge
+//! cargo run --release --bin bench_first_book
 //! ```
 
 pub mod archives;

@@ -1,0 +1,115 @@
+/* Numbers 3, 4 and 5 in words: what is wrong with the bytes. */
+#include "describing.h"
+
+#include <string.h>
+
+enum { RELEASE = '?', CARRIAGE_RETURN = '\r', LINE_FEED = '\n' };
+
+static void append_byte(struct text *text, uint8_t byte)
+{
+    if (byte == CARRIAGE_RETURN || byte == LINE_FEED) {
+        append(text, "a line break (byte 0x%02X)", byte);
+    } else if (byte > 0x20 && (byte < 0x7F || byte > 0xA0)) {
+        append(text, "\"");
+        append_message(text, &byte, 1);
+        append(text, "\"");
+    } else if (byte == ' ') {
+        append(text, "a space");
+    } else {
+        append(text, "the byte 0x%02X", byte);
+    }
+}
+
+/* What the grammar wants at a place before which everything is well-formed. */
+static const char *wanted_at(struct message message, size_t start, size_t at)
+{
+    size_t inside = at - start;
+    if (inside < TAG_LENGTH) {
+        return inside == 0 ? "a segment must begin here, with its tag"
+                           : "a tag has three capital letters or digits";
+    }
+    if (inside == TAG_LENGTH) {
+        return "+ or ' must follow the tag";
+    }
+    size_t releases = 0;
+    while (message.bytes[at - 1 - releases] == RELEASE) {
+        releases++;
+    }
+    return releases % 2 == 1 ? "? may stand only before : + ' and ?"
+                             : "this byte is not allowed in data";
+}
+
+static bool begins_with(struct message message, const char *what)
+{
+    size_t length = strlen(what);
+    return message.length >= length && memcmp(message.bytes, what, length) == 0;
+}
+
+/* Hints for what happens most: line breaks, an interchange, the wrong encoding. */
+static void add_hints(struct message message, size_t at, struct text *notes)
+{
+    uint8_t byte = at < message.length ? message.bytes[at] : 0;
+    if (byte == CARRIAGE_RETURN || byte == LINE_FEED) {
+        append(notes, "Nothing may stand between segments or behind the last one, no "
+                      "line break either.\n");
+    }
+    if (begins_with(message, "UNA") && at == TAG_LENGTH) {
+        append(notes, "The file begins with UNA: it is an interchange. A message runs "
+                      "from UNH to UNT.\n");
+    }
+    bool after_lead = at > 0 && message.bytes[at - 1] >= 0xC2;
+    if (byte >= 0x80 && byte < 0xA0 && after_lead) {
+        append(notes, "The text looks like UTF-8; a message is ISO 8859-1.\n");
+    }
+}
+
+/* What is at fault right behind a segment is shown with that segment. */
+static struct part shown_around(struct message message, struct segment segment,
+                                size_t at)
+{
+    struct part shown = segment.part;
+    if (at == shown.start && segment.number > 1) {
+        shown.start = segment_around(message, at - 1).part.start;
+        shown.length += at - shown.start;
+    }
+    return shown;
+}
+
+static void describe_fault(const struct judgement *judgement, struct finding *finding)
+{
+    struct message message = judgement->message;
+    size_t at = judgement->record.entries[PLACE];
+    finding->has_segment = true;
+    finding->segment = segment_around(message, at);
+    finding->shown = shown_around(message, finding->segment, at);
+    finding->mark = (struct part){at, at < message.length ? 1 : 0};
+    if (at < message.length) {
+        append(&finding->answer, "at byte offset ");
+        append_number(&finding->answer, at);
+        append(&finding->answer, " is ");
+        append_byte(&finding->answer, message.bytes[at]);
+        append(&finding->answer, ": %s",
+               wanted_at(message, finding->segment.part.start, at));
+    } else {
+        append(&finding->answer, "the message stops at byte offset ");
+        append_number(&finding->answer, at);
+        append(&finding->answer, ", inside a segment: its closing ' is missing");
+    }
+    add_hints(message, at, &finding->notes);
+}
+
+void describe_bytes(const struct judgement *judgement, struct finding *finding)
+{
+    uint32_t number = judgement->record.entries[NUMBER];
+    if (number == NOT_WELL_FORMED) {
+        describe_fault(judgement, finding);
+    } else if (number == TOO_MANY_SEGMENTS) {
+        append(&finding->answer, "the message has more than 999,999 segments");
+    } else if (judgement->message.length == 0) {
+        append(&finding->answer, "there is no message: not a single byte");
+    } else {
+        append(&finding->answer, "the message has more than ");
+        append_number(&finding->answer, MOST_MESSAGE_BYTES);
+        append(&finding->answer, " bytes");
+    }
+}

@@ -1,0 +1,71 @@
+/* Numbers 7, 8 and 9 in words: what is wrong with UNH and UNT. */
+#include "describing.h"
+
+#include <string.h>
+
+static bool has_tag(const struct judgement *judgement, struct segment segment,
+                    const char *tag)
+{
+    const uint8_t *bytes = judgement->message.bytes + segment.part.start;
+    return memcmp(bytes, tag, TAG_LENGTH) == 0;
+}
+
+static void append_tag(struct text *text, const struct judgement *judgement,
+                       struct segment segment)
+{
+    append_message(text, judgement->message.bytes + segment.part.start, TAG_LENGTH);
+}
+
+static void describe_ends(const struct judgement *judgement, struct finding *finding)
+{
+    struct text *answer = &finding->answer;
+    struct segment segment = finding->segment;
+    mark_tag(finding);
+    if (segment.number == 1 && !has_tag(judgement, segment, "UNH")) {
+        append(answer, "the first segment must be UNH, and is ");
+        append_tag(answer, judgement, segment);
+    } else if (judgement->segments == 1) {
+        append(answer, "UNH is the only segment");
+    } else if (segment.number == judgement->segments) {
+        append(answer, "the last segment must be UNT, and is ");
+        append_tag(answer, judgement, segment);
+    } else {
+        append_tag(answer, judgement, segment);
+        append(answer, " stands amid the segments: a file holds one message");
+    }
+    if (has_tag(judgement, segment, "UNB")) {
+        append(&finding->notes, "The file begins with UNB: it is an interchange. A "
+                                "message runs from UNH to UNT.\n");
+    }
+}
+
+static void describe_count(const struct judgement *judgement, struct finding *finding)
+{
+    mark_component(judgement, finding, 1, 1);
+    append(&finding->answer, "the message has ");
+    append_number(&finding->answer, judgement->segments);
+    append(&finding->answer, " segments, and the count in UNT ");
+    append_has(&finding->answer, judgement->message, finding->mark);
+}
+
+static void describe_references(const struct judgement *judgement,
+                                struct finding *finding)
+{
+    struct segment head = find_segment(judgement->message, 1);
+    struct part reference = component_of(judgement->message, head, 1, 1);
+    mark_component(judgement, finding, 2, 1);
+    append(&finding->answer, "the reference in UNH ");
+    append_has(&finding->answer, judgement->message, reference);
+    append(&finding->answer, ", and the one in UNT ");
+    append_has(&finding->answer, judgement->message, finding->mark);
+}
+
+void describe_frame(const struct judgement *judgement, struct finding *finding)
+{
+    show_segment(judgement, finding);
+    switch (judgement->record.entries[NUMBER]) {
+    case WRONG_COUNT: describe_count(judgement, finding); break;
+    case OTHER_REFERENCE: describe_references(judgement, finding); break;
+    default: describe_ends(judgement, finding); break;
+    }
+}

@@ -1,0 +1,130 @@
+/* inspect: judges files against a guide book and says what is wrong and where.
+ *
+ * options.c reads the command line, shelf.c finds the guide book, files.c reads,
+ * judging.c asks the library, describing.c and the describe_*.c find the words,
+ * report.c, json.c and tree.c show them, totals.c counts. */
+#include "files.h"
+#include "json.h"
+#include "judging.h"
+#include "options.h"
+#include "output.h"
+#include "progress.h"
+#include "report.h"
+#include "shelf.h"
+#include "totals.h"
+#include "tree.h"
+
+#include <stdio.h>
+#include <string.h>
+
+/* What goes from file to file. */
+struct inspection {
+    const struct options *options;
+    const struct guide *guide;
+    struct output output;
+    struct progress progress;
+    struct totals totals;
+};
+
+static const char *shown_name(const char *name)
+{
+    return strcmp(name, "-") == 0 ? "standard input" : name;
+}
+
+static void show_verdict(struct inspection *inspection, const char *name,
+                         const struct judgement *judgement)
+{
+    struct output *output = &inspection->output;
+    if (inspection->options->quiet) {
+        return;
+    }
+    hide_progress(&inspection->progress);
+    if (inspection->options->json) {
+        report_json(output, name, judgement, inspection->options->tree);
+        return;
+    }
+    report(output, shown_name(name), judgement);
+    if (inspection->options->tree) {
+        draw_tree(output, judgement);
+    }
+}
+
+static void show_error(struct inspection *inspection, const char *name,
+                       const char *error)
+{
+    hide_progress(&inspection->progress);
+    complain_of(shown_name(name), error);
+    if (inspection->options->json && !inspection->options->quiet) {
+        report_json_error(&inspection->output, name, error);
+    }
+}
+
+static void inspect_file(struct inspection *inspection, const char *name)
+{
+    struct file file = read_file(name, MOST_MESSAGE_BYTES);
+    if (file.error != NULL) {
+        count_unreadable(&inspection->totals);
+        show_error(inspection, name, file.error);
+    } else {
+        struct message message = {file.bytes, file.length};
+        struct judgement judgement =
+            judge(message, inspection->guide, inspection->options->conditions);
+        count_verdict(&inspection->totals, judgement.record.entries[NUMBER]);
+        show_verdict(inspection, name, &judgement);
+        free_judgement(&judgement);
+    }
+    write_output(&inspection->output);
+    free_file(&file);
+}
+
+static int inspect_files(const struct options *options, const struct guide *guide)
+{
+    struct inspection inspection = {
+        .options = options,
+        .guide = guide,
+        .output = open_output(),
+        .progress = begin_progress(options->file_count),
+    };
+    for (size_t i = 0; i < options->file_count; i++) {
+        show_progress(&inspection.progress, i);
+        inspect_file(&inspection, options->files[i]);
+    }
+    hide_progress(&inspection.progress);
+    if (options->file_count > 1 && !options->quiet && !options->json) {
+        report_totals(&inspection.output, &inspection.totals);
+        write_output(&inspection.output);
+    }
+    free_text(&inspection.output.text);
+    return exit_status(&inspection.totals);
+}
+
+static bool conditions_fit(const struct options *options, const struct guide *guide)
+{
+    unsigned count = condition_count(guide);
+    if (options->highest_condition > count) {
+        complain("there is no condition %u: the guide book has %u",
+                 options->highest_condition, count);
+        return false;
+    }
+    return true;
+}
+
+int main(int argc, char **argv)
+{
+    struct options options;
+    struct shelf shelf;
+    size_t given = argc > 0 ? (size_t)argc - 1 : 0;
+    if (!read_options(&options, argv + (argc > 0), given)) {
+        return EXIT_TROUBLE;
+    }
+    if (options.help || options.file_count == 0) {
+        fputs(usage, options.help ? stdout : stderr);
+        return options.help ? EXIT_ALL_ACCEPTED : EXIT_TROUBLE;
+    }
+    int status = EXIT_TROUBLE;
+    if (take_guide(&shelf, options.book) && conditions_fit(&options, &shelf.guide)) {
+        status = inspect_files(&options, &shelf.guide);
+    }
+    free_shelf(&shelf);
+    return status;
+}

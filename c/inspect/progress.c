@@ -1,0 +1,36 @@
+/* How far it has come: a line on standard error that is written over. */
+#define _POSIX_C_SOURCE 200809L
+#include "progress.h"
+
+#include <stdio.h>
+#include <unistd.h>
+
+/* With fewer files nobody waits. */
+enum { MANY = 20 };
+
+struct progress begin_progress(size_t files)
+{
+    return (struct progress){
+        .files = files,
+        .is_wanted = files >= MANY && isatty(STDERR_FILENO),
+        .shown_at = time(NULL),
+    };
+}
+
+void show_progress(struct progress *progress, size_t done)
+{
+    if (progress->is_wanted && time(NULL) != progress->shown_at) {
+        fprintf(stderr, "\rinspect: %zu of %zu files", done, progress->files);
+        progress->is_shown = true;
+        progress->shown_at = time(NULL);
+    }
+}
+
+/* To the line's start, and what stands there goes. */
+void hide_progress(struct progress *progress)
+{
+    if (progress->is_shown) {
+        fputs("\r\033[K", stderr);
+        progress->is_shown = false;
+    }
+}
