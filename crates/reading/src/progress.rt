@@ -1,4 +1,4 @@
-// Segment after segment: the one loop over a message's bytes, which the scan and the cursor share.
+// Segment after segment: the loop over a message's bytes that the scan and the cursor share, and a quick way through plain text.
 ghost use mathlib.Core.Path.{_≡_};
 ghost use mathlib.Core.Bool.{true};
 ghost use Prim.Native.Nat.{_+_, _≤_};

@@ -283,10 +283,10 @@ fn the_identifier_is_element_1_component_2() {
 
 // Fields.
 
-/// UNH, a line XXX with these fields, and UNT.
+/// UNH, a line AAA with these fields, and UNT.
 fn book_with_fields(fields: Vec<Field>, codes: &[&str]) -> Vec<u8> {
     let mut book = smallest_book();
-    insert_line(&mut book, 1, optional_line(*b"XXX", 0));
+    insert_line(&mut book, 1, optional_line(*b"AAA", 0));
     book.codes = codes.iter().map(|code| code.as_bytes().to_vec()).collect();
     let count = fields.len();
     book.fields = fields;
@@ -313,9 +313,9 @@ fn field(element: u8, component: u8, presence: Presence) -> Field {
     }
 }
 
-/// The place at fault of a segment XXX with these elements, (0, 0) if none is.
+/// The place at fault of a segment AAA with these elements, (0, 0) if none is.
 fn place_at_fault(book: &[u8], elements: &str) -> (u32, u32) {
-    let message = format!("UNH+1:10001'XXX{elements}'UNT+3+1'");
+    let message = format!("UNH+1:10001'AAA{elements}'UNT+3+1'");
     let record = judged(message.as_bytes(), book, &[]);
     match record.number {
         0 => (0, 0),
@@ -368,7 +368,7 @@ fn presence_speaks_of_its_component_and_element() {
         ("+?:", (1, 1)),
         ("+:?:+++A", (0, 0)),
     ] {
-        assert_eq!(place_at_fault(&book, elements), place, "XXX{elements}'");
+        assert_eq!(place_at_fault(&book, elements), place, "AAA{elements}'");
     }
     let far = format!("{}A", "+".repeat(257));
     assert_eq!(place_at_fault(&book, &format!("++++A{far}")), (261, 1));
