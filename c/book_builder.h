@@ -7,76 +7,7 @@
 
 #include "testing.h"
 
-/* Sizes of the records. */
-enum {
-    HEADER_SIZE = 28,
-    LINE_SIZE = 20,
-    CODE_SIZE = 8,
-    FIELD_SIZE = 12,
-    IDENTIFIER_SIZE = 8,
-    ROW_SIZE = 8
-};
-
-/* The header's numbers, in their order. */
-enum {
-    EDITION,
-    TOTAL_LENGTH,
-    LINE_COUNT,
-    LINES_OFFSET,
-    CODE_COUNT,
-    CODES_OFFSET,
-    FIELD_COUNT,
-    FIELDS_OFFSET,
-    IDENTIFIER_COUNT,
-    IDENTIFIERS_OFFSET,
-    ROWS_OFFSET,
-    CONDITION_COUNT,
-    CARRIER,
-    LAST_ZERO
-};
-
-/* Offsets within a line, a code, a field, a Pruefidentifikator and a row. */
-enum {
-    LINE_KIND = 0,
-    LINE_DEPTH = 1,
-    LINE_TAG = 2,
-    LINE_REQUIRED = 5,
-    SELECTOR_ELEMENT = 6,
-    SELECTOR_COMPONENT = 7,
-    LINE_FIRST_CODE = 8,
-    LINE_CODE_COUNT = 10,
-    LINE_MAXIMUM = 12,
-    LINE_FIRST_FIELD = 16,
-    LINE_FIELD_COUNT = 18,
-
-    CODE_LENGTH = 0,
-    CODE_TEXT = 1,
-    CODE_ZERO = 7,
-
-    FIELD_ELEMENT = 0,
-    FIELD_COMPONENT = 1,
-    FIELD_PRESENCE = 2,
-    FIELD_FORM = 3,
-    FIELD_LONGEST = 4,
-    FIELD_FIRST_CODE = 6,
-    FIELD_CODE_COUNT = 8,
-    FIELD_ZEROS = 10,
-
-    IDENTIFIER_DIGITS = 0,
-    IDENTIFIER_ZEROS = 5,
-
-    ROW_MODE = 0,
-    ROW_JOINT = 1,
-    ROW_ZEROS = 5
-};
-
-enum { SEGMENT = 1, GROUP = 2 };
-enum { OPTIONAL = 0, REQUIRED = 1 };
-enum { MUST_HAVE_BYTES = 1, MAY_HAVE_BYTES = 2, MUST_IF_ELEMENT = 3 };
-enum { AN = 1, N = 2 };
-enum { NEVER = 0, MUST = 1, MAY = 2, MUST_IF = 3, MAY_IF = 4 };
-enum { ALL = 1, ANY = 2 };
-enum { NOT = 128 };
+#include "book_layout.h"
 
 /* Room for what the tests build: a line too many, and codes beyond 65,535 bytes. */
 enum { MOST_LINES = 257, MOST_CODES = 8192, MOST_FIELDS = 16, MOST_IDENTIFIERS = 2 };
@@ -221,21 +152,21 @@ static inline void build_k(void)
 {
     begin_book();
     add_segment(0, "UNH", REQUIRED);
-    add_field(1, 1, MUST_HAVE_BYTES, AN, 14);
+    add_field(1, 1, MUST_HAVE_BYTES, FORM_AN, 14);
     add_segment(0, "BGM", REQUIRED);
-    add_field(1, 1, MAY_HAVE_BYTES, AN, 3);
+    add_field(1, 1, MAY_HAVE_BYTES, FORM_AN, 3);
     add_segment(0, "RFF", REQUIRED);
-    add_field(1, 1, MAY_HAVE_BYTES, AN, 3);
-    add_field(1, 2, MUST_HAVE_BYTES, AN, 70);
+    add_field(1, 1, MAY_HAVE_BYTES, FORM_AN, 3);
+    add_field(1, 2, MUST_HAVE_BYTES, FORM_AN, 70);
     add_group(0, OPTIONAL, 2);
     add_segment(1, "LIN", REQUIRED);
-    add_field(1, 1, MUST_HAVE_BYTES, N, 6);
+    add_field(1, 1, MUST_HAVE_BYTES, FORM_N, 6);
     add_segment(1, "QTY", OPTIONAL);
-    add_field(1, 1, MAY_HAVE_BYTES, AN, 3);
-    add_field(1, 2, MUST_HAVE_BYTES, N, 35);
+    add_field(1, 1, MAY_HAVE_BYTES, FORM_AN, 3);
+    add_field(1, 2, MUST_HAVE_BYTES, FORM_N, 35);
     add_segment(0, "UNT", REQUIRED);
-    add_field(1, 1, MUST_HAVE_BYTES, N, 6);
-    add_field(2, 1, MUST_HAVE_BYTES, AN, 14);
+    add_field(1, 1, MUST_HAVE_BYTES, FORM_N, 6);
+    add_field(2, 1, MUST_HAVE_BYTES, FORM_AN, 14);
     book.condition_count = 1;
     book.carrier = K_RFF + 1;
     add_identifier("10001");

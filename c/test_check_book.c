@@ -28,12 +28,12 @@ static void build_rich(void)
     add_segment(0, "UNH", REQUIRED);
     add_group(0, REQUIRED, 1);
     add_segment(1, "NAD", REQUIRED);
-    add_field(1, 1, MUST_HAVE_BYTES, AN, 3);
-    add_field(2, 1, MUST_IF_ELEMENT, AN, 35);
+    add_field(1, 1, MUST_HAVE_BYTES, FORM_AN, 3);
+    add_field(2, 1, MUST_IF_ELEMENT, FORM_AN, 35);
     add_group(1, REQUIRED, 1);
     add_segment(2, "RFF", REQUIRED);
-    add_field(1, 1, MUST_HAVE_BYTES, AN, 3);
-    add_field(1, 2, MUST_HAVE_BYTES, N, 5);
+    add_field(1, 1, MUST_HAVE_BYTES, FORM_AN, 3);
+    add_field(1, 2, MUST_HAVE_BYTES, FORM_N, 5);
     add_segment(2, "RFF", OPTIONAL);
     add_segment(0, "NAD", OPTIONAL);
     add_segment(0, "UNT", REQUIRED);
@@ -212,7 +212,7 @@ static void build_long(size_t length)
     build_smallest();
     missing = length - write_book();
     if (missing % CODE_SIZE != 0) {
-        add_loose_field(1, 1, MAY_HAVE_BYTES, AN, 1);
+        add_loose_field(1, 1, MAY_HAVE_BYTES, FORM_AN, 1);
         missing -= FIELD_SIZE;
     }
     for (; missing > 0; missing -= CODE_SIZE) {
@@ -494,8 +494,8 @@ static void test_fields(void)
     MALFORMED(build_rich(), set_codes(book.fields[1] + FIELD_FIRST_CODE, 5, 1));
     MALFORMED(build_rich(), set_codes(book.fields[1] + FIELD_FIRST_CODE, 5, 0));
     MALFORMED(build_rich(), set_codes(book.fields[1] + FIELD_FIRST_CODE, 65535, 2));
-    GOOD(build_k(), add_loose_field(1, 1, MAY_HAVE_BYTES, AN, 3));
-    MALFORMED(build_k(), add_loose_field(0, 1, MAY_HAVE_BYTES, AN, 3));
+    GOOD(build_k(), add_loose_field(1, 1, MAY_HAVE_BYTES, FORM_AN, 3));
+    MALFORMED(build_k(), add_loose_field(0, 1, MAY_HAVE_BYTES, FORM_AN, 3));
     MALFORMED(build_k(), add_loose_field(1, 1, MAY_HAVE_BYTES, 0, 3));
 }
 

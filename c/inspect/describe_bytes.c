@@ -3,7 +3,7 @@
 
 #include <string.h>
 
-enum { RELEASE = '?', CARRIAGE_RETURN = '\r', LINE_FEED = '\n' };
+enum { END = '\'', RELEASE = '?', CARRIAGE_RETURN = '\r', LINE_FEED = '\n' };
 
 static void append_byte(struct text *text, uint8_t byte)
 {
@@ -45,10 +45,14 @@ static bool begins_with(struct message message, const char *what)
     return message.length >= length && memcmp(message.bytes, what, length) == 0;
 }
 
-/* Hints for what happens most: line breaks, an interchange, the wrong encoding. */
+/* Hints for what happens most: line breaks, an interchange, the wrong encoding, and
+ * an end that looks closed. */
 static void add_hints(struct message message, size_t at, struct text *notes)
 {
     uint8_t byte = at < message.length ? message.bytes[at] : 0;
+    if (at == message.length && message.bytes[at - 1] == END) {
+        append(notes, "The last ' is data, since the ? before it releases it.\n");
+    }
     if (byte == CARRIAGE_RETURN || byte == LINE_FEED) {
         append(notes, "Nothing may stand between segments or behind the last one, no "
                       "line break either.\n");
@@ -60,6 +64,10 @@ static void add_hints(struct message message, size_t at, struct text *notes)
     bool after_lead = at > 0 && message.bytes[at - 1] >= 0xC2;
     if (byte >= 0x80 && byte < 0xA0 && after_lead) {
         append(notes, "The text looks like UTF-8; a message is ISO 8859-1.\n");
+    }
+    if (begins_with(message, "\xEF\xBB\xBF") && at == 0) {
+        append(notes, "The file begins with the byte order mark of UTF-8, which is no "
+                      "part of a message.\n");
     }
 }
 

@@ -33,7 +33,7 @@ static void describe_ends(const struct judgement *judgement, struct finding *fin
         append_tag(answer, judgement, segment);
         append(answer, " stands amid the segments: a file holds one message");
     }
-    if (has_tag(judgement, segment, "UNB")) {
+    if (segment.number == 1 && has_tag(judgement, segment, "UNB")) {
         append(&finding->notes, "The file begins with UNB: it is an interchange. A "
                                 "message runs from UNH to UNT.\n");
     }
@@ -46,6 +46,26 @@ static void describe_count(const struct judgement *judgement, struct finding *fi
     append_number(&finding->answer, judgement->segments);
     append(&finding->answer, " segments, and the count in UNT ");
     append_has(&finding->answer, judgement->message, finding->mark);
+    if (finding->mark.length > 1 &&
+        judgement->message.bytes[finding->mark.start] == '0') {
+        append(&finding->notes, "The count is written without leading zeros.\n");
+    }
+}
+
+/* What is quoted is cut: long references may look the same. */
+static void note_difference(struct message message, struct part one, struct part other,
+                            struct text *notes)
+{
+    size_t same = 0;
+    while (same < one.length && same < other.length &&
+           message.bytes[one.start + same] == message.bytes[other.start + same]) {
+        same++;
+    }
+    if (same >= LONGEST_QUOTED) {
+        append(notes, "The first ");
+        append_number(notes, same);
+        append(notes, " bytes of the two are the same.\n");
+    }
 }
 
 static void describe_references(const struct judgement *judgement,
@@ -58,6 +78,7 @@ static void describe_references(const struct judgement *judgement,
     append_has(&finding->answer, judgement->message, reference);
     append(&finding->answer, ", and the one in UNT ");
     append_has(&finding->answer, judgement->message, finding->mark);
+    note_difference(judgement->message, reference, finding->mark, &finding->notes);
 }
 
 void describe_frame(const struct judgement *judgement, struct finding *finding)

@@ -3,27 +3,6 @@
 
 #include <string.h>
 
-/* Sizes of the records, and the offsets of the header's numbers. */
-enum {
-    LINE_SIZE = 20,
-    CODE_SIZE = 8,
-    FIELD_SIZE = 12,
-    IDENTIFIER_SIZE = 8,
-    ROW_SIZE = 8
-};
-enum {
-    LINE_COUNT = 4,
-    LINES_AT = 6,
-    CODES_AT = 10,
-    FIELDS_AT = 14,
-    IDENTIFIER_COUNT = 16,
-    IDENTIFIERS_AT = 18,
-    ROWS_AT = 20,
-    CONDITION_COUNT = 22,
-    CARRIER = 24
-};
-enum { KIND_GROUP = 2, JOINT_ANY = 2, NEGATED = 128 };
-
 /* A guide's longest list has some forty; a made-up book may have thousands. */
 enum { MOST_LISTED = 200 };
 
@@ -43,48 +22,53 @@ static struct codes codes_from(const uint8_t *at)
     return (struct codes){two_bytes(at), two_bytes(at + 2)};
 }
 
+static unsigned header_number(const struct guide *guide, unsigned index)
+{
+    return two_bytes(guide->bytes + 2 * index);
+}
+
 /* A record of a block whose offset stands in the header. */
 static const uint8_t *record_at(const struct guide *guide, unsigned block, size_t size,
                                 size_t index)
 {
-    return guide->bytes + two_bytes(guide->bytes + block) + size * index;
+    return guide->bytes + header_number(guide, block) + size * index;
 }
 
 unsigned line_count(const struct guide *guide)
 {
-    return two_bytes(guide->bytes + LINE_COUNT);
+    return header_number(guide, LINE_COUNT);
 }
 
 unsigned condition_count(const struct guide *guide)
 {
-    return two_bytes(guide->bytes + CONDITION_COUNT);
+    return header_number(guide, CONDITION_COUNT);
 }
 
 unsigned identifier_count(const struct guide *guide)
 {
-    return two_bytes(guide->bytes + IDENTIFIER_COUNT);
+    return header_number(guide, IDENTIFIER_COUNT);
 }
 
 unsigned carrier_line(const struct guide *guide)
 {
-    return two_bytes(guide->bytes + CARRIER);
+    return header_number(guide, CARRIER);
 }
 
 struct guide_line guide_line(const struct guide *guide, unsigned line)
 {
-    const uint8_t *at = record_at(guide, LINES_AT, LINE_SIZE, line - 1);
+    const uint8_t *at = record_at(guide, LINES_OFFSET, LINE_SIZE, line - 1);
     struct guide_line read = {
-        .is_group = at[0] == KIND_GROUP,
-        .depth = at[1],
-        .required = at[5] == 1,
-        .element = at[6],
-        .component = at[7],
-        .codes = codes_from(at + 8),
-        .maximum = four_bytes(at + 12),
-        .first_field = two_bytes(at + 16),
-        .field_count = two_bytes(at + 18),
+        .is_group = at[LINE_KIND] == GROUP,
+        .depth = at[LINE_DEPTH],
+        .required = at[LINE_REQUIRED] == REQUIRED,
+        .element = at[SELECTOR_ELEMENT],
+        .component = at[SELECTOR_COMPONENT],
+        .codes = codes_from(at + LINE_FIRST_CODE),
+        .maximum = four_bytes(at + LINE_MAXIMUM),
+        .first_field = two_bytes(at + LINE_FIRST_FIELD),
+        .field_count = two_bytes(at + LINE_FIELD_COUNT),
     };
-    memcpy(read.tag, at + 2, TAG_LENGTH);
+    memcpy(read.tag, at + LINE_TAG, TAG_LENGTH);
     return read;
 }
 
@@ -103,14 +87,14 @@ unsigned parent_line(const struct guide *guide, unsigned line)
 
 static struct guide_field field_at(const struct guide *guide, unsigned index)
 {
-    const uint8_t *at = record_at(guide, FIELDS_AT, FIELD_SIZE, index);
+    const uint8_t *at = record_at(guide, FIELDS_OFFSET, FIELD_SIZE, index);
     return (struct guide_field){
-        .element = at[0],
-        .component = at[1],
-        .presence = (enum presence)at[2],
-        .form = (enum form)at[3],
-        .longest = two_bytes(at + 4),
-        .codes = codes_from(at + 6),
+        .element = at[FIELD_ELEMENT],
+        .component = at[FIELD_COMPONENT],
+        .presence = (enum presence)at[FIELD_PRESENCE],
+        .form = (enum form)at[FIELD_FORM],
+        .longest = two_bytes(at + FIELD_LONGEST),
+        .codes = codes_from(at + FIELD_FIRST_CODE),
     };
 }
 
@@ -127,10 +111,9 @@ bool find_field(const struct guide *guide, unsigned line, uint32_t element,
     return false;
 }
 
-/* A code is its length and then its bytes. */
 static const uint8_t *code_at(const struct guide *guide, unsigned index)
 {
-    return record_at(guide, CODES_AT, CODE_SIZE, index);
+    return record_at(guide, CODES_OFFSET, CODE_SIZE, index);
 }
 
 bool has_code(const struct guide *guide, struct codes codes, const uint8_t *bytes,
@@ -138,7 +121,8 @@ bool has_code(const struct guide *guide, struct codes codes, const uint8_t *byte
 {
     for (unsigned i = 0; i < codes.count; i++) {
         const uint8_t *code = code_at(guide, codes.first + i);
-        if (code[0] == length && memcmp(code + 1, bytes, length) == 0) {
+        if (code[CODE_LENGTH] == length &&
+            memcmp(code + CODE_TEXT, bytes, length) == 0) {
             return true;
         }
     }
@@ -152,7 +136,7 @@ void append_codes(struct text *text, const struct guide *guide, struct codes cod
         const uint8_t *code = code_at(guide, codes.first + i);
         bool is_last = i + 1 == codes.count;
         append(text, "%s", i == 0 ? "" : is_last ? " or " : ", ");
-        append_bytes(text, (const char *)code + 1, code[0]);
+        append_bytes(text, (const char *)code + CODE_TEXT, code[CODE_LENGTH]);
     }
     if (listed < codes.count) {
         append(text, " or %u more", codes.count - listed);
@@ -161,7 +145,8 @@ void append_codes(struct text *text, const struct guide *guide, struct codes cod
 
 const char *identifier_digits(const struct guide *guide, unsigned index)
 {
-    return (const char *)record_at(guide, IDENTIFIERS_AT, IDENTIFIER_SIZE, index);
+    return (const char *)record_at(guide, IDENTIFIERS_OFFSET, IDENTIFIER_SIZE, index) +
+           IDENTIFIER_DIGITS;
 }
 
 int find_identifier(const struct guide *guide, const uint8_t *bytes, size_t length)
@@ -178,12 +163,14 @@ int find_identifier(const struct guide *guide, const uint8_t *bytes, size_t leng
 struct row guide_row(const struct guide *guide, unsigned identifier, unsigned line)
 {
     size_t index = (size_t)identifier * line_count(guide) + line - 1;
-    const uint8_t *at = record_at(guide, ROWS_AT, ROW_SIZE, index);
-    struct row row = {.mode = (enum mode)at[0], .any = at[1] == JOINT_ANY, .count = 0};
-    while (row.count < MOST_IN_ROW && at[2 + row.count] != 0) {
-        uint8_t byte = at[2 + row.count];
-        row.literals[row.count].condition = byte % NEGATED;
-        row.literals[row.count].negated = byte >= NEGATED;
+    const uint8_t *at = record_at(guide, ROWS_OFFSET, ROW_SIZE, index);
+    const uint8_t *conditions = at + ROW_CONDITIONS;
+    struct row row = {
+        .mode = (enum mode)at[ROW_MODE], .any = at[ROW_JOINT] == ANY, .count = 0};
+    while (row.count < MOST_IN_ROW && conditions[row.count] != 0) {
+        uint8_t byte = conditions[row.count];
+        row.literals[row.count].condition = byte % NOT;
+        row.literals[row.count].negated = byte >= NOT;
         row.count++;
     }
     return row;

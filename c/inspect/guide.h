@@ -4,6 +4,7 @@
 #ifndef INSPECT_GUIDE_H
 #define INSPECT_GUIDE_H
 
+#include "../book_layout.h"
 #include "names.h"
 #include "text.h"
 
@@ -39,9 +40,6 @@ struct guide_line {
     unsigned field_count;
 };
 
-enum presence { MUST_BE_EMPTY, MUST_HAVE_BYTES, MAY_HAVE_BYTES, MUST_IF_ELEMENT };
-enum form { FORM_AN = 1, FORM_N = 2 };
-
 struct guide_field {
     unsigned element;
     unsigned component;
@@ -50,8 +48,6 @@ struct guide_field {
     unsigned longest;
     struct codes codes;
 };
-
-enum mode { NEVER, MUST, MAY, MUST_IF, MAY_IF };
 
 struct literal {
     unsigned condition;

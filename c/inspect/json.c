@@ -252,7 +252,8 @@ void report_json(struct output *output, const char *name,
     free_finding(&finding);
 }
 
-void report_json_error(struct output *output, const char *name, const char *error)
+void report_json_error(struct output *output, const char *name, const char *error,
+                       bool with_tree)
 {
     static const char *const facts[] = {
         "book",  "answer",     "bytes", "segments", "segment",  "mark", "guide",
@@ -270,5 +271,8 @@ void report_json_error(struct output *output, const char *name, const char *erro
         add_null(text, facts[i]);
     }
     add_words(text, "error", error);
+    if (with_tree) {
+        add_null(text, "tree");
+    }
     append(text, "}\n");
 }

@@ -10,6 +10,7 @@ void report_json(struct output *output, const char *name,
                  const struct judgement *judgement, bool with_tree);
 
 /* A file that could not be read: every fact is null but the file and the error. */
-void report_json_error(struct output *output, const char *name, const char *error);
+void report_json_error(struct output *output, const char *name, const char *error,
+                       bool with_tree);
 
 #endif

@@ -38,7 +38,9 @@ static void show_verdict(struct inspection *inspection, const char *name,
     if (inspection->options->quiet) {
         return;
     }
-    hide_progress(&inspection->progress);
+    if (output->is_terminal) {
+        hide_progress(&inspection->progress);
+    }
     if (inspection->options->json) {
         report_json(output, name, judgement, inspection->options->tree);
         return;
@@ -53,9 +55,9 @@ static void show_error(struct inspection *inspection, const char *name,
                        const char *error)
 {
     hide_progress(&inspection->progress);
-    complain_of(shown_name(name), error);
+    complain("%s: %s", shown_name(name), error);
     if (inspection->options->json && !inspection->options->quiet) {
-        report_json_error(&inspection->output, name, error);
+        report_json_error(&inspection->output, name, error, inspection->options->tree);
     }
 }
 
@@ -109,6 +111,16 @@ static bool conditions_fit(const struct options *options, const struct guide *gu
     return true;
 }
 
+/* As an answer: it is no success if it cannot be written. */
+static int show_help(void)
+{
+    struct output output = open_output();
+    append(&output.text, "%s", usage);
+    write_output(&output);
+    free_text(&output.text);
+    return EXIT_ALL_ACCEPTED;
+}
+
 int main(int argc, char **argv)
 {
     struct options options;
@@ -117,9 +129,12 @@ int main(int argc, char **argv)
     if (!read_options(&options, argv + (argc > 0), given)) {
         return EXIT_TROUBLE;
     }
-    if (options.help || options.file_count == 0) {
-        fputs(usage, options.help ? stdout : stderr);
-        return options.help ? EXIT_ALL_ACCEPTED : EXIT_TROUBLE;
+    if (options.help) {
+        return show_help();
+    }
+    if (options.file_count == 0) {
+        fputs(usage, stderr);
+        return EXIT_TROUBLE;
     }
     int status = EXIT_TROUBLE;
     if (take_guide(&shelf, options.book) && conditions_fit(&options, &shelf.guide)) {

@@ -61,7 +61,17 @@ static bool read_value(const char *words, uint8_t *value)
     return false;
 }
 
-/* A condition that is given twice may be a slip: the last pair of eyes asks. */
+/* What is given twice may be a slip: the last pair of eyes asks. */
+static bool read_book_name(struct options *options, const char *name)
+{
+    if (options->book != NULL) {
+        complain("--book is given twice: messages are judged by one book");
+        return false;
+    }
+    options->book = name;
+    return true;
+}
+
 static bool read_condition(struct options *options, bool *is_given, const char *words)
 {
     unsigned number = condition_number(words);
@@ -107,8 +117,7 @@ static bool read_option(struct options *options, bool *is_given, char **words,
     }
     const char *book = value_after("--book", words, count, at);
     if (book != NULL) {
-        options->book = book;
-        return true;
+        return read_book_name(options, book);
     }
     const char *condition = value_after("--condition", words, count, at);
     if (condition != NULL) {

@@ -12,17 +12,16 @@
 
 enum { LONG_OUTPUT = 1 << 20 };
 
-static bool terminal_is_dumb(void)
+bool is_able_terminal(int descriptor)
 {
     const char *terminal = getenv("TERM");
-    return terminal == NULL || strcmp(terminal, "dumb") == 0;
+    return isatty(descriptor) && terminal != NULL && strcmp(terminal, "dumb") != 0;
 }
 
 struct output open_output(void)
 {
-    bool has_colour =
-        isatty(STDOUT_FILENO) && getenv("NO_COLOR") == NULL && !terminal_is_dumb();
-    return (struct output){{NULL, 0, 0}, has_colour};
+    bool has_colour = is_able_terminal(STDOUT_FILENO) && getenv("NO_COLOR") == NULL;
+    return (struct output){{NULL, 0, 0}, isatty(STDOUT_FILENO) != 0, has_colour};
 }
 
 void append_painted(struct output *output, enum colour colour, const char *words)
@@ -56,21 +55,19 @@ void write_when_long(struct output *output)
     }
 }
 
+/* Words of the command line may stand in it: control characters become signs. */
 void complain(const char *format, ...)
 {
+    struct text said = {NULL, 0, 0};
+    struct text shown = {NULL, 0, 0};
     va_list values;
     va_start(values, format);
-    fputs("inspect: ", stderr);
-    vfprintf(stderr, format, values);
-    fputs("\n", stderr);
+    append_values(&said, format, values);
     va_end(values);
-}
-
-void complain_of(const char *name, const char *reason)
-{
-    struct text shown = {NULL, 0, 0};
-    append_name(&shown, name, strlen(name));
-    append(&shown, ": %s", reason);
-    complain("%.*s", (int)shown.length, shown.bytes);
+    append(&shown, "inspect: ");
+    append_name(&shown, said.bytes, said.length);
+    append(&shown, "\n");
+    fwrite(shown.bytes, 1, shown.length, stderr);
+    free_text(&said);
     free_text(&shown);
 }

@@ -2,6 +2,8 @@
 #define _POSIX_C_SOURCE 200809L
 #include "progress.h"
 
+#include "output.h"
+
 #include <stdio.h>
 #include <unistd.h>
 
@@ -12,17 +14,19 @@ struct progress begin_progress(size_t files)
 {
     return (struct progress){
         .files = files,
-        .is_wanted = files >= MANY && isatty(STDERR_FILENO),
+        .is_wanted = files >= MANY && is_able_terminal(STDERR_FILENO),
         .shown_at = time(NULL),
     };
 }
 
 void show_progress(struct progress *progress, size_t done)
 {
-    if (progress->is_wanted && time(NULL) != progress->shown_at) {
+    time_t now = time(NULL);
+    if (progress->is_wanted && (progress->is_hidden || now != progress->shown_at)) {
         fprintf(stderr, "\rinspect: %zu of %zu files", done, progress->files);
         progress->is_shown = true;
-        progress->shown_at = time(NULL);
+        progress->is_hidden = false;
+        progress->shown_at = now;
     }
 }
 
@@ -32,5 +36,6 @@ void hide_progress(struct progress *progress)
     if (progress->is_shown) {
         fputs("\r\033[K", stderr);
         progress->is_shown = false;
+        progress->is_hidden = true;
     }
 }

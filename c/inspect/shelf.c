@@ -36,7 +36,7 @@ static bool read_book(struct shelf *shelf, const char *name)
 {
     shelf->file = read_file(name, MOST_BOOK_BYTES);
     if (shelf->file.error != NULL) {
-        complain_of(name, shelf->file.error);
+        complain("%s: %s", name, shelf->file.error);
         return false;
     }
     shelf->guide.bytes = shelf->file.bytes;
@@ -60,9 +60,9 @@ bool take_guide(struct shelf *shelf, const char *name)
         return false;
     }
     if (tracksaddle_check_book(shelf->guide.bytes, shelf->guide.length) != 0) {
-        complain_of(name == NULL ? "the book inside" : name,
-                    "not a guide book, or a malformed one (1); a text is compiled by "
-                    "books/compile_book.py");
+        complain("%s: not a guide book, or a malformed one (1); a text is compiled by "
+                 "books/compile_book.py",
+                 name == NULL ? "the book inside" : name);
         return false;
     }
     if (name != NULL) {

@@ -1,13 +1,9 @@
 /* Text that grows, and how bytes become characters. */
 #include "text.h"
 
-#include <stdarg.h>
 #include <stdio.h>
 #include <stdlib.h>
 #include <string.h>
-
-/* As many bytes of a value are quoted in a sentence. */
-enum { LONGEST_QUOTED = 40 };
 
 /* What stands for bytes without a sign of their own: the control pictures of
  * Unicode, and the replacement character for 0x80 to 0x9F. */
@@ -49,19 +45,25 @@ void append_bytes(struct text *text, const char *bytes, size_t length)
     }
 }
 
+void append_values(struct text *text, const char *format, va_list values)
+{
+    va_list again;
+    va_copy(again, values);
+    int length = vsnprintf(NULL, 0, format, values);
+    if (length > 0) {
+        make_room(text, (size_t)length + 1);
+        vsnprintf(text->bytes + text->length, (size_t)length + 1, format, again);
+        text->length += (size_t)length;
+    }
+    va_end(again);
+}
+
 void append(struct text *text, const char *format, ...)
 {
     va_list values;
     va_start(values, format);
-    int length = vsnprintf(NULL, 0, format, values);
+    append_values(text, format, values);
     va_end(values);
-    if (length > 0) {
-        make_room(text, (size_t)length + 1);
-        va_start(values, format);
-        vsnprintf(text->bytes + text->length, (size_t)length + 1, format, values);
-        va_end(values);
-        text->length += (size_t)length;
-    }
 }
 
 void append_times(struct text *text, const char *what, size_t times)

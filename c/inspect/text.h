@@ -3,6 +3,7 @@
 #ifndef INSPECT_TEXT_H
 #define INSPECT_TEXT_H
 
+#include <stdarg.h>
 #include <stddef.h>
 #include <stdint.h>
 
@@ -19,9 +20,11 @@ void *need_memory(size_t bytes);
 
 void append_bytes(struct text *text, const char *bytes, size_t length);
 
-/* As printf. */
+/* As printf, and as vprintf. */
 void append(struct text *text, const char *format, ...)
     __attribute__((format(printf, 2, 3)));
+void append_values(struct text *text, const char *format, va_list values)
+    __attribute__((format(printf, 2, 0), nonnull(2)));
 
 /* The same byte or character several times. */
 void append_times(struct text *text, const char *what, size_t times);
@@ -30,7 +33,8 @@ void append_times(struct text *text, const char *what, size_t times);
  * each byte that a terminal would not show. */
 void append_message(struct text *text, const uint8_t *bytes, size_t length);
 
-/* Bytes of a message in quotes, cut if they are many. */
+/* Bytes of a message in quotes, cut if they are more than these. */
+enum { LONGEST_QUOTED = 40 };
 void append_quoted(struct text *text, const uint8_t *bytes, size_t length);
 
 /* A name from outside, such as a file's: UTF-8 stays, what is not UTF-8 is read as

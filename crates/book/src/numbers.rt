@@ -12,11 +12,15 @@ pub fn byte_at(bytes: &[u8], at: usize) -> u32
     0
 }
 
+// One test where both bytes are there, as they are in a good book: nothing is read so often.
 pub fn u16_at(bytes: &[u8], at: usize) -> u32
     requires { ⌜ at < 2 ^ 40 ⌝ }
     ensures { λ r. ⌜ (r ≡ u16At (now (bytes .entry)) at) × (r < 65536) ⌝ }
 {
-    byte_at(bytes, at) + 256 * byte_at(bytes, at + 1)
+    if at + 1 < bytes.len() {
+        return bytes[at] as u32 + 256 * (bytes[at + 1] as u32);
+    }
+    byte_at(bytes, at)
 }
 
 pub fn u32_at(bytes: &[u8], at: usize) -> u32

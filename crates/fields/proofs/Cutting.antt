@@ -6,16 +6,17 @@ use native.Mathlib.Numerals.{add-one}
 use mathlib.Core.Path.{_≡_, refl, sym, ap, ap₂, _∙_}
 use mathlib.Core.List.{List, [], _∷_, _++_, append-assoc, append-nil}
 use mathlib.Core.Bool.{Bool, true, false, cond, not, true≢false, false≢true}
-use mathlib.Core.Logic.{dite}
+use mathlib.Core.Logic.{dite, ⊎-elim}
 use lib.Dec.{eqb}
 use lib.ListN.{length, getD, take, drop, drop-of-length-le, length-drop, length-append}
 use lib.Seq.{drop-cons, take-suc, getD-drop, drop-drop}
-use Rattle.reading.specs.Service.{isData}
+use Rattle.reading.specs.Service.{isData, mustRelease}
 use Rattle.reading.specs.Component.{valueFrom, keptOrReleased}
 use Rattle.reading.specs.Machine.{pick, kindOf}
 use Rattle.reading.specs.declared.service.Service.{Service}
 use Rattle.reading.specs.declared.bytes.Kind.{Kind}
 use Rattle.reading.specs.declared.bytes.Kind.the-variants.{Component, Element, Terminator, Release, Plain, Other}
+use Rattle.reading.proofs.Seeking.{unmarked}
 use Rattle.fields.specs.Parts.{Raw, Cut, pieces, addByte, addComponent, addElement, cutBy, cut, componentsIn, furtherIn, hasBytes, anyBytes}
 use Rattle.fields.specs.declared.parts.Part.{Part}
 use Rattle.fields.specs.Kept.{isRelease, isComponentMark, isElementMark, isMark, opensComponent, opensElement, elementsIn, rawIn, behindComponent, behindElement, furtherBehind, Reads, Ends}
@@ -289,6 +290,11 @@ module _ (s : Service) (bs : List ℕ) (from : ℕ) where
 
     pub free-data : isMark kind ≡ false → isRelease kind ≡ false → Free releases (at + 1)
     free-data m e = free releases (at + 1) (read-data releases at h kind ek i m e)
+
+    pub free-text : mustRelease s (getD bs at 0) ≡ false → Free releases (at + 1)
+    free-text t =
+        ⊎-elim (λ p. free-data (ap isMark (ek ∙ p)) (ap isRelease (ek ∙ p))) (λ p. free-data (ap isMark (ek ∙ p)) (ap isRelease (ek ∙ p)))
+        (unmarked s (getD bs at 0) t)
 
     pub free-release : isRelease kind ≡ true → at + 1 < length bs → Free (releases + 1) (at + 1 + 1)
     free-release e g = free (releases + 1) (at + 1 + 1) (read-released (releases + 1) (at + 1) g (read-release releases at h kind ek i e))

@@ -68,7 +68,7 @@ fn is_mark(kind: Kind) -> bool
 }
 
 // Reads the component that starts at an offset, up to the mark that ends it, or the message's end. The byte behind a release is
-// passed with it.
+// passed with it. Most bytes are neither, so that is asked first.
 pub fn read_component(service: Service, message: &[u8], from: usize) -> Part
     requires { ⌜ from ≤ length (now message) ⌝ }
     ensures { λ r. ⌜ Reads service (now (message .entry)) from r ⌝ }
@@ -77,15 +77,18 @@ pub fn read_component(service: Service, message: &[u8], from: usize) -> Part
     let mut position = from;
     while position < message.len() {
         let at = position;
-        let kind = bytes::kind_of(service, message[at]);
+        let byte = message[at];
         position += 1;
-        if is_mark(kind) {
-            return Part { end: at, releases };
-        }
-        if is_release(kind) {
-            releases += 1;
-            if position < message.len() {
-                position += 1;
+        if bytes::must_release(service, byte) {
+            let kind = bytes::kind_of(service, byte);
+            if is_mark(kind) {
+                return Part { end: at, releases };
+            }
+            if is_release(kind) {
+                releases += 1;
+                if position < message.len() {
+                    position += 1;
+                }
             }
         }
     }

@@ -42,8 +42,8 @@ use Rattle.judging.specs.Decimal.{isDecimal}
 use Rattle.judging.specs.Message.{isSized, hasRoom, frameOf, componentAt, closingStage, frameStage, countStage, scanStage, messageStage}
 use Rattle.judging.specs.Table.{isGood, bookStage, areKnown, conditionsStage, placingVerdict, placingStage, refusal, identifierIn, rowsVerdict, identifierVerdict, fieldsVerdict, placedVerdict, placedStage, judged, unlessRefused, Tables, tables, roomOf, tablesAfter}
 use Rattle.judging.specs.Placed.{foundVerdict, foundStage}
-use Rattle.judging.specs.declared.message.Frame.{Frame}
-use Rattle.judging.specs.declared.message.Frame.the-variants as frame
+use Rattle.judging.specs.declared.survey.Frame.{Frame}
+use Rattle.judging.specs.declared.survey.Frame.the-variants as frame
 use Rattle.judging.specs.declared.message.Room.{Room}
 use Rattle.judging.specs.declared.verdict.Verdict.{Verdict}
 use Rattle.judging.proofs.Refusals.{refusal-is}

@@ -18,7 +18,7 @@ use Rattle.judging.specs.Verdicts.{answer}
 use Rattle.judging.specs.Decimal.{isDecimal}
 use Rattle.judging.specs.Message.{isSized, hasRoom, frameOf, componentAt, closingStage, frameStage, countStage, scanStage, messageStage}
 use Rattle.judging.specs.declared.message.Room.{Room}
-use Rattle.judging.specs.declared.message.Frame.{Frame}
+use Rattle.judging.specs.declared.survey.Frame.{Frame}
 use Rattle.judging.specs.declared.verdict.Verdict.{Verdict}
 
 -- number 4's place lies within the message, or at its end

@@ -19,8 +19,8 @@ use Rattle.judging.specs.Verdicts.{answer}
 use Rattle.judging.specs.Decimal.{isDecimal}
 use Rattle.judging.specs.Message.{isSized, hasRoom, frameOf, componentAt, closingStage, frameStage, countStage, scanStage, messageStage}
 use Rattle.judging.specs.Table.{isGood, bookStage, areKnown, conditionsStage, placingVerdict, placingStage, refusal, placedStage, judged}
-use Rattle.judging.specs.declared.message.Frame.{Frame}
-use Rattle.judging.specs.declared.message.Frame.the-variants.{Misplaced, Closes}
+use Rattle.judging.specs.declared.survey.Frame.{Frame}
+use Rattle.judging.specs.declared.survey.Frame.the-variants.{Misplaced, Closes}
 use Rattle.judging.specs.declared.message.Room.{Room}
 use Rattle.judging.specs.declared.verdict.Verdict.{Verdict}
 

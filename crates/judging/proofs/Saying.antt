@@ -28,8 +28,8 @@ use Rattle.judging.specs.Verdicts.{answer}
 use Rattle.judging.specs.Decimal.{InDecimal, isDecimal}
 use Rattle.judging.specs.Message.{UNH, UNT, hasRoom, isMisplaced, frameFrom, frameOf, componentAt}
 use Rattle.judging.specs.Meanings.{Unless, FirstWrong, NoneWrong, HasRoom, Misplaced, no-unh, another-unh, no-unt, another-unt, IsFirst, IsLast, TellsCount, TellsReference}
-use Rattle.judging.specs.declared.message.Frame.{Frame}
-use Rattle.judging.specs.declared.message.Frame.the-variants as frame
+use Rattle.judging.specs.declared.survey.Frame.{Frame}
+use Rattle.judging.specs.declared.survey.Frame.the-variants as frame
 use Rattle.judging.specs.declared.message.Room.{Room}
 use Rattle.judging.specs.declared.verdict.Verdict.{Verdict}
 use Rattle.judging.proofs.Decimals.{decimal}

@@ -41,8 +41,8 @@ use Rattle.judging.specs.Decimal.{isDecimal}
 use Rattle.judging.specs.Message.{UNT, isSized, hasRoom, frameOf, componentAt}
 use Rattle.judging.specs.Table.{isGood, areKnown, placedStage, judged}
 use Rattle.judging.specs.Meanings.{Unless, FirstWrong, NoneWrong, FitConditions, Sized, HasRoom, Misplaced, no-unt, IsFirst, IsLast, TellsCount, TellsReference, PlacedSays, HomesSay, MessageSays, TableSays}
-use Rattle.judging.specs.declared.message.Frame.{Frame}
-use Rattle.judging.specs.declared.message.Frame.the-variants as frame
+use Rattle.judging.specs.declared.survey.Frame.{Frame}
+use Rattle.judging.specs.declared.survey.Frame.the-variants as frame
 use Rattle.judging.specs.declared.message.Room.{Room}
 use Rattle.judging.specs.declared.verdict.Verdict.{Verdict}
 use Rattle.judging.proofs.Refusals.{good-exactly}

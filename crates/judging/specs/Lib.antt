@@ -3,6 +3,7 @@
 pub mod Verdicts
 pub mod Decimal
 pub mod Message
+pub mod Survey
 pub mod Table
 pub mod Placed
 pub mod Meanings

@@ -15,8 +15,8 @@ use Rattle.reading.specs.declared.scan.Outcome.the-variants.{Segments, BadAt}
 use Rattle.placing.specs.Passes.{startsFrom}
 use Rattle.judging.specs.Verdicts.{answer}
 use Rattle.judging.specs.Decimal.{isDecimal}
-use Rattle.judging.specs.declared.message.Frame.{Frame}
-use Rattle.judging.specs.declared.message.Frame.the-variants.{Misplaced, Closes}
+use Rattle.judging.specs.declared.survey.Frame.{Frame}
+use Rattle.judging.specs.declared.survey.Frame.the-variants.{Misplaced, Closes}
 use Rattle.judging.specs.declared.message.Room.{Room}
 use Rattle.judging.specs.declared.verdict.Verdict.{Verdict}
 

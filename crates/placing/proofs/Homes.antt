@@ -35,6 +35,7 @@ use Rattle.reading.proofs.Tags.{tag-of-segment}
 use Rattle.placing.specs.Fitting.{isAmong, hasTag, isSelected, fits, least, homeOf, isAnyCode, isSelectedAt, fitsAt, homeAt}
 use Rattle.placing.proofs.LeavingOut.{both, left, right, denied}
 use Rattle.placing.proofs.Codes.{same-test, any-code}
+use Rattle.placing.proofs.Finding.{Least, found, none, least-is}
 
 -- ---- the least line
 
@@ -44,24 +45,6 @@ least-same f g l zero h = refl
 least-same f g l (suc n) h =
     ap (λ (t : Bool). cond t l (least f (suc l) n)) (h l (omega arith) (omega arith))
     ∙ ap (cond (g l) l) (least-same f g (suc l) n (λ x i j. h x (omega arith) (omega arith)))
-
--- what the least line says: it is the first of its kind, or there is none
-pub data Least (test : ℕ → Bool) (l n : ℕ) : ℕ → Type 0 where
-  found : (x : ℕ) → l ≤ x → x < l + n → test x ≡ true → ((y : ℕ) → l ≤ y → y < x → test y ≡ false) → Least test l n x
-  none : ((y : ℕ) → l ≤ y → y < l + n → test y ≡ false) → Least test l n 0
-
-here-or-later : (test : ℕ → Bool) (l y : ℕ) → l ≤ y → test l ≡ false → (suc l ≤ y → test y ≡ false) → test y ≡ false
-here-or-later test l y h e f = dite (decLt l y) f (λ n. let z : l ≡ y = omega arith in subst (λ (x : ℕ). test x ≡ false) z e)
-
-pub least-is : (test : ℕ → Bool) (l n : ℕ) → Least test l n (least test l n)
-unfolding least
-least-is test l zero = none (λ y i j. absurd (omega arith))
-least-is test l (suc n) = go (test l) refl (least test (suc l) n) (least-is test (suc l) n)
-  where
-    go : (v : Bool) → test l ≡ v → (x : ℕ) → Least test (suc l) n x → Least test l (suc n) (cond v l x)
-    go true e x r = found l (omega arith) (omega arith) e (λ y i j. absurd (omega arith))
-    go false e x (found z a b c d) = found z (omega arith) (omega arith) c (λ y i j. here-or-later test l y i e (λ k. d y k j))
-    go false e x (none f) = none (λ y i j. here-or-later test l y i e (λ k. f y k (omega arith)))
 
 -- ---- tags
 

@@ -3,18 +3,18 @@ use Prim.Native.Nat.{ℕ, zero, suc, _+_, _-_, _≤_, _<_, _^_, pred}
 use native.Mathlib.Omega.{arith}
 use native.Mathlib.Numerals.{add-one}
 use mathlib.Core.Path.{_≡_, refl, sym, ap, ap₂, _∙_, subst}
-use mathlib.Core.List.{List, [], _∷_, _++_, append-assoc, append-nil}
+use mathlib.Core.List.{List, [], _∷_, _++_, append-nil}
 use mathlib.Core.Bool.{Bool, true, false, cond, not, _&&_, and-false}
-use lib.Dec.{eqb, ltb, leb}
+use lib.Dec.{eqb, ltb}
 use lib.ListN.{length, getD, take, drop, set, length-take, length-set, drop-of-length-le}
-use lib.Seq.{drop-cons, getD-take, take-take, take-suc-set, set-out}
-use borrow.Author.Tests.{lt-ltb, le-ltb, eq-eqb, ne-eqb, le-leb, lt-leb, ltb-true, eqb-true, eqb-false}
-use Rattle.placing.proofs.LeavingOut.{left, right}
+use lib.Seq.{drop-cons, getD-take, take-take, take-suc-set, set-set, set-out}
+use borrow.Author.Tests.{lt-ltb, le-ltb, eq-eqb, ne-eqb, le-leb, ltb-true, eqb-true, eqb-false}
 use Rattle.placing.specs.declared.walk.Level.{Level}
 use Rattle.placing.specs.declared.walk.Walk.{Walk}
+use Rattle.placing.specs.declared.walk.Move.{Move}
 use Rattle.book.specs.Guide.{guideOf, lineAt}
 use Rattle.placing.specs.Plan.{Plan, planIn}
-use Rattle.placing.specs.Walking.{Ready, StandsFor, admits, advanced, canClose, canCloseAll, canMove, entered, isAlive, isClear, isPassed, isPlaceable, isTrigger, level, openLines, raised, stacked, start, target, walked}
+use Rattle.placing.specs.Walking.{Ready, StandsFor, SegmentLine, WithinEight, Opens, made, admits, advanced, canClose, canCloseAll, canMove, entered, isAlive, isClear, isPassed, isPlaceable, isTrigger, level, openLines, raised, stacked, start, target, walked}
 use Rattle.placing.specs.Tree.{openedBy}
 
 stack-long : (w : Walk) → Ready w → length (openLines w) ≡ w .height
@@ -29,34 +29,55 @@ raise-same v t e = ap (level t) (add-one (v .count)) ∙ sym (simp (eq-eqb (v .l
 pub raise-new : (v : Level) (t : ℕ) → (v .line ≡ t → ⊥) → level t 1 ≡ raised v t
 raise-new v t e = sym (simp (ne-eqb (v .line) t e))
 
--- with_level
+-- ---- a move
+
 pub within-eight : (d : ℕ) (o : Bool) → d < cond o 7 8 → d < 8
 within-eight d true h = omega arith
 within-eight d false h = h
 
-pub within-seven : (d : ℕ) (o : Bool) → d < cond o 7 8 → o ≡ true → d < 7
+within-seven : (d : ℕ) (o : Bool) → d < cond o 7 8 → o ≡ true → d < 7
 within-seven d o h y = subst (λ (x : Bool). d < cond x 7 8) y h
 
-level-stack : (w : Walk) (d : ℕ) (v : Level) → Ready w → d ≤ w .height → d < 8 → take (d + 1) (set (w .levels) d v) ≡ take d (openLines w) ++ (v ∷ [])
-level-stack w d v q i j =
-    ap (λ (x : ℕ). take x (set (w .levels) d v)) (add-one d) ∙ take-suc-set (w .levels) d v (let e = q .eight in omega arith)
-    ∙ ap (λ (x : List Level). x ++ (v ∷ [])) (sym (take-take d (w .height) (w .levels) i))
+two-long : (w : Walk) (d e : ℕ) (v u : Level) → Ready w → length (set (set (w .levels) d v) e u) ≡ 8
+two-long w d e v u q = length-set (set (w .levels) d v) e u ∙ length-set (w .levels) d v ∙ q .eight
 
-pub one-level : (w : Walk) (d : ℕ) (v : Level) (o : Bool) (l : ℕ) → Ready w → d ≤ w .height → d < 8 → o ≡ false
-    → take (d + 1) (set (w .levels) d v) ≡ (take d (openLines w) ++ (v ∷ [])) ++ entered o l
-one-level w d v o l q i j y =
-    level-stack w d v q i j ∙ sym (append-nil (take d (openLines w) ++ (v ∷ []))) ∙ ap (λ (x : Bool). (take d (openLines w) ++ (v ∷ [])) ++ entered x l) (sym y)
+pub opens-none : (v u : Level) (w : Walk) → Ready w → Opens (record { depth = 0; level = v; last = 0; deepest = u; height = 0 }) w []
+opens-none v u w q =
+    record {
+      within = record { high = omega arith; deep = omega arith };
+      ready = record { eight = two-long w 0 0 v u q; low = omega arith };
+      lines = refl;
+    }
 
-pub two-long : (w : Walk) (d : ℕ) (v u : Level) → Ready w → length (set (set (w .levels) d v) (d + 1) u) ≡ 8
-two-long w d v u q = length-set (set (w .levels) d v) (d + 1) u ∙ length-set (w .levels) d v ∙ q .eight
+module _ (d : ℕ) (v : Level) (o : Bool) (l : ℕ) (h : d < cond o 7 8) (w : Walk) (q : Ready w) (i : d ≤ w .height) where
+  level-stack : take (d + 1) (set (w .levels) d v) ≡ take d (openLines w) ++ (v ∷ [])
+  level-stack =
+      ap (λ (x : ℕ). take x (set (w .levels) d v)) (add-one d) ∙ take-suc-set (w .levels) d v (let e = q .eight in omega (arith, within-eight d o h))
+      ∙ ap (λ (x : List Level). x ++ (v ∷ [])) (sym (take-take d (w .height) (w .levels) i))
 
-pub two-levels : (w : Walk) (d : ℕ) (v : Level) (o : Bool) (l : ℕ) → Ready w → d ≤ w .height → d < 7 → o ≡ true
-    → take (d + 2) (set (set (w .levels) d v) (d + 1) (level l 1)) ≡ (take d (openLines w) ++ (v ∷ [])) ++ entered o l
-two-levels w d v o l q i j y =
-    let more : d + 2 ≡ suc (d + 1) = omega arith in
-    ap (λ (x : ℕ). take x (set (set (w .levels) d v) (d + 1) (level l 1))) more
-    ∙ take-suc-set (set (w .levels) d v) (d + 1) (level l 1) (let e = q .eight in omega (arith, length-set (w .levels) d v))
-    ∙ ap (λ (x : List Level). x ++ (level l 1 ∷ [])) (level-stack w d v q i (omega arith)) ∙ ap (λ (x : Bool). (take d (openLines w) ++ (v ∷ [])) ++ entered x l) (sym y)
+  pub opens-one : o ≡ false → Opens (record { depth = d; level = v; last = d; deepest = v; height = d + 1 }) w ((take d (openLines w) ++ (v ∷ [])) ++ entered o l)
+  opens-one y =
+      let high = within-eight d o h in
+      record {
+        within = record { high = high; deep = high };
+        ready = record { eight = two-long w d d v v q; low = omega arith };
+        lines =
+            ap (take (d + 1)) (set-set (w .levels) d v v) ∙ level-stack
+            ∙ sym (append-nil (take d (openLines w) ++ (v ∷ []))) ∙ ap (λ (x : Bool). (take d (openLines w) ++ (v ∷ [])) ++ entered x l) (sym y);
+      }
+
+  pub opens-two : o ≡ true → Opens (record { depth = d; level = v; last = d + 1; deepest = level l 1; height = d + 2 }) w ((take d (openLines w) ++ (v ∷ [])) ++ entered o l)
+  opens-two y =
+      let high = within-seven d o h y in
+      let more : d + 2 ≡ suc (d + 1) = omega arith in
+      record {
+        within = record { high = omega arith; deep = omega arith };
+        ready = record { eight = two-long w d (d + 1) v (level l 1) q; low = omega arith };
+        lines =
+            ap (λ (x : ℕ). take x (set (set (w .levels) d v) (d + 1) (level l 1))) more
+            ∙ take-suc-set (set (w .levels) d v) (d + 1) (level l 1) (let e = q .eight in omega (arith, length-set (w .levels) d v))
+            ∙ ap (λ (x : List Level). x ++ (level l 1 ∷ [])) level-stack ∙ ap (λ (x : Bool). (take d (openLines w) ++ (v ∷ [])) ++ entered x l) (sym y);
+      }
 
 module _ (b : Plan) where
   -- can_close
@@ -154,24 +175,19 @@ module _ (b : Plan) where
   unfolding target
   target-self l g h e y = sym (simp (sym (trigger-at l g h e) ∙ y))
 
-  -- is_placeable
-  pub place-zero : (l : ℕ) → l ≡ 0 → false ≡ isPlaceable b l
-  unfolding isPlaceable
-  place-zero l e = sym (simp (le-ltb 0 l (omega arith)))
+  -- a segment line is placeable where its place lies within the eight depths
+  module _ (l t d k : ℕ) (o : Bool) (line : SegmentLine b l) (et : t ≡ target b l) (ed : d ≡ b .depth t) (eo : o ≡ isTrigger b l) (ek : k ≡ cond o 7 8) where
+    placeable : ltb d k ≡ isPlaceable b l
+    unfolding isPlaceable
+    placeable =
+        ap₂ ltb (ed ∙ ap (b .depth) et) (ek ∙ ap (λ (x : Bool). cond x 7 8) eo)
+        ∙ sym (simp (lt-ltb 0 l (line .some), le-leb l (b .lines) (line .within), line .segment))
 
-  pub place-past : (l n : ℕ) → n ≡ b .lines → n < l → false ≡ isPlaceable b l
-  unfolding isPlaceable
-  place-past l n e h = sym (simp (lt-leb l (b .lines) (omega arith), and-false))
+    pub too-deep : k ≤ d → false ≡ isPlaceable b l
+    too-deep i = sym (le-ltb d k i) ∙ placeable
 
-  pub place-group : (l : ℕ) (g : Bool) → g ≡ b .group l → g ≡ true → false ≡ isPlaceable b l
-  unfolding isPlaceable
-  place-group l g e y = sym (simp (sym e ∙ y, and-false))
-
-  pub place-is : (l n d k : ℕ) (g o : Bool) → (l ≡ 0 → ⊥) → n ≡ b .lines → l ≤ n → g ≡ b .group l → g ≡ false → d ≡ b .depth (target b l) → o ≡ isTrigger b l → k ≡ cond o 7 8
-      → ltb d k ≡ isPlaceable b l
-  unfolding isPlaceable
-  place-is l n d k g o z e i eg y ed eo ek =
-      ap₂ ltb ed (ek ∙ ap (λ (x : Bool). cond x 7 8) eo) ∙ sym (simp (lt-ltb 0 l (omega arith), le-leb l (b .lines) (omega arith), sym eg ∙ y))
+    pub in-depths : d < k → true ≡ isPlaceable b l
+    in-depths i = sym (lt-ltb d k i) ∙ placeable
 
   -- a line that comes once more has not come up to its maximum
   pub move-room : (v : Level) (t : ℕ) (m : Bool) → m ≡ canMove b v t → m ≡ true → v .line ≡ t → v .count < b .maximum t
@@ -185,26 +201,19 @@ module _ (b : Plan) where
       ∙ ap (λ (x : ℕ). take x (openLines w) ++ (raised (getD (openLines w) x (level 0 0)) t ∷ [])) e
 
   -- advance
-  pub advance-yes : (vs us : List Level) (l t : ℕ) (p f o : Bool) → p ≡ isPlaceable b l → p ≡ true → t ≡ target b l → f ≡ admits b vs t → f ≡ true → o ≡ isTrigger b l
+  pub advance-yes : (vs us : List Level) (l t : ℕ) (f o : Bool) → true ≡ isPlaceable b l → t ≡ target b l → f ≡ admits b vs t → f ≡ true → o ≡ isTrigger b l
       → us ≡ stacked (b .depth t) vs t ++ entered o l → us ≡ advanced b vs l
   unfolding advanced
-  advance-yes vs us l t p f o ep yp et ef yf eo h =
-      h ∙ ap₂ (λ (x : ℕ) (y : Bool). stacked (b .depth x) vs x ++ entered y l) et eo ∙ sym (simp (sym ep ∙ yp, ap (admits b vs) (sym et) ∙ sym ef ∙ yf))
+  advance-yes vs us l t f o ep et ef yf eo h =
+      h ∙ ap₂ (λ (x : ℕ) (y : Bool). stacked (b .depth x) vs x ++ entered y l) et eo ∙ sym (simp (sym ep, ap (admits b vs) (sym et) ∙ sym ef ∙ yf))
 
-  pub advance-off : (vs us : List Level) (l : ℕ) (p : Bool) → p ≡ isPlaceable b l → p ≡ false → us ≡ [] → us ≡ advanced b vs l
+  pub advance-off : (vs : List Level) (l : ℕ) → false ≡ isPlaceable b l → [] ≡ advanced b vs l
   unfolding advanced
-  advance-off vs us l p ep yp h = h ∙ sym (simp (sym ep ∙ yp))
+  advance-off vs l ep = sym (simp (sym ep))
 
-  pub advance-no : (vs us : List Level) (l t : ℕ) (f : Bool) → t ≡ target b l → f ≡ admits b vs t → f ≡ false → us ≡ [] → us ≡ advanced b vs l
+  pub advance-no : (vs : List Level) (l t : ℕ) (f : Bool) → t ≡ target b l → f ≡ admits b vs t → f ≡ false → [] ≡ advanced b vs l
   unfolding advanced
-  advance-no vs us l t f et ef yf h = h ∙ sym (simp (ap (admits b vs) (sym et) ∙ sym ef ∙ yf, and-false))
-
-  pub shallow-of : (l t : ℕ) (p o : Bool) → p ≡ isPlaceable b l → p ≡ true → t ≡ target b l → o ≡ isTrigger b l → b .depth t < cond o 7 8
-  unfolding isPlaceable
-  shallow-of l t p o ep yp et eo =
-      ltb-true (b .depth t) (cond o 7 8)
-      (ap₂ (λ (x : ℕ) (y : Bool). ltb (b .depth x) (cond y 7 8)) et eo
-      ∙ right (not (b .group l)) _ (right (leb l (b .lines)) _ (right (ltb 0 l) _ (sym ep ∙ yp))))
+  advance-no vs l t f et ef yf = sym (simp (ap (admits b vs) (sym et) ∙ sym ef ∙ yf, and-false))
 
   -- the trail
   pub open-not : (trail : List ℕ) (h n : ℕ) (o : Bool) → o ≡ isTrigger b h → o ≡ false → trail ≡ openedBy b trail h n
@@ -229,9 +238,14 @@ pub stands-first : (b : Plan) (w : Walk) → Ready w → openLines w ≡ start �
 unfolding walked
 stands-first b w q e = record { ready = q; lines = e }
 
-pub stands-next : (b : Plan) (hs : List ℕ) (w r : Walk) (h : ℕ) → Ready r → openLines r ≡ advanced b (openLines w) h → StandsFor b hs w → StandsFor b (hs ++ (h ∷ [])) r
+-- a move that opens the lines of one home more
+pub stands-next : (b : Plan) (w : Walk) (m : Move) (h : ℕ) (vs : List Level) → Opens m w vs → vs ≡ advanced b (openLines w) h
+    → WithinEight m × ((hs : List ℕ) → StandsFor b hs w → StandsFor b (hs ++ (h ∷ [])) (made m w))
 unfolding walked
-stands-next b hs w r h q e i = record { ready = q; lines = e ∙ ap (λ (vs : List Level). advanced b vs h) (i .lines) ∙ sym (walked-last start hs) }
+stands-next b w m h vs o e = (
+  o .within,
+  λ hs i. record { ready = o .ready; lines = o .lines ∙ e ∙ ap (λ (us : List Level). advanced b us h) (i .lines) ∙ sym (walked-last start hs) },
+)
   where
     walked-last : (vs : List Level) (xs : List ℕ) → walked b vs (xs ++ (h ∷ [])) ≡ advanced b (walked b vs xs) h
     walked-last vs [] = refl

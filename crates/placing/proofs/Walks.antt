@@ -11,7 +11,7 @@ use Rattle.placing.specs.declared.walk.Level.{Level}
 use Rattle.placing.specs.Plan.{Plan, station, deep, opening, Of}
 use Rattle.placing.proofs.Structured.{Frame, Trigger, Structured}
 use Rattle.placing.specs.Placement.{Contents, nothing, segment, instance, homes, count, UpTo, Counted, Runs, Placed, Allowed, Begins}
-use Rattle.placing.specs.Walking.{level, start, isTrigger, target, isPlaceable, isWanted, isClear, isPassed, canCloseAll, canMove, raised, admits, entered, stacked, advanced, walked, isAlive}
+use Rattle.placing.specs.Walking.{level, start, isTrigger, target, isPlaceable, isWanted, isClear, isPassed, canCloseAll, canMove, raised, admits, entered, stacked, advanced, walked, isAlive, SegmentLine}
 use Rattle.placing.proofs.LeavingOut.{both, left, right, denied, refuted, Met, clear-none, clear-yes, Skipped, passes-all, passes-yes}
 use Rattle.placing.proofs.Trees.{one-here, one-other, Same, it, other, same, Next, Full, Good, Open, good-open, valid-good, good-valid, good-runs, runs-of}
 
@@ -340,12 +340,7 @@ module _ (b : Plan) (s : Structured b) where
   group-no t w k g e i j = true≢false (sym k ∙ ap (b .group) (sym e) ∙ s .trigger g i (omega arith) j .segment)
 
   -- what `isPlaceable` says
-  record Line (l : ℕ) : Type 0 where
-    some : 0 < l
-    within : l ≤ b .lines
-    segment : b .group l ≡ false
-
-  a-line : (l : ℕ) → isPlaceable b l ≡ true → Line l
+  a-line : (l : ℕ) → isPlaceable b l ≡ true → SegmentLine b l
   unfolding isPlaceable
   a-line l h =
       let h1 = right (ltb 0 l) _ h in
@@ -365,7 +360,7 @@ module _ (b : Plan) (s : Structured b) where
       (left (canMove b (getD (levels 0 T) (b .depth t) (level 0 0)) t) _ h1) (right (canMove b (getD (levels 0 T) (b .depth t) (level 0 0)) t) _ h1) in
       record { tree = r .tree; stands = r .stands; same = r .same; stack = r .stack ∙ sym (append-assoc (take (b .depth t) (levels 0 T)) (raised (getD (levels 0 T) (b .depth t) (level 0 0)) t ∷ []) (entered e (homeFor e t))) }
 
-  advance-put : (T : Contents) (l : ℕ) (v : Bool) → isTrigger b l ≡ v → Open b 0 T → Line l → admits b (levels 0 T) (cond v (pred l) l) ≡ true
+  advance-put : (T : Contents) (l : ℕ) (v : Bool) → isTrigger b l ≡ v → Open b 0 T → SegmentLine b l → admits b (levels 0 T) (cond v (pred l) l) ≡ true
       → Put 0 T l (stacked (b .depth (cond v (pred l) l)) (levels 0 T) (cond v (pred l) l) ++ entered v l)
   advance-put T l false e o x h = put-fits T l false (x .segment) o (x .within) (isTrigger-no l e) (x .some) h
   advance-put T zero true e o x h = absurd (false≢true e)
@@ -455,7 +450,7 @@ module _ (b : Plan) (s : Structured b) where
       let r = s .trigger t (let a = o .after in omega arith) (o .within) k in
       lt-ltb (b .depth t) 7 (let d = s .deepest (suc t) (omega arith) (r .within) in let e = r .deeper in omega arith)
 
-  homeFor-line : (p t : ℕ) (e : Bool) → b .group t ≡ e → Of b p t → Line (homeFor e t)
+  homeFor-line : (p t : ℕ) (e : Bool) → b .group t ≡ e → Of b p t → SegmentLine b (homeFor e t)
   homeFor-line p t false k o = record { some = let a = o .after in omega arith; within = o .within; segment = k }
   homeFor-line p t true k o = let r = s .trigger t (let a = o .after in omega arith) (o .within) k in record { some = omega arith; within = r .within; segment = r .segment }
 

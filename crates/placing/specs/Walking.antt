@@ -1,15 +1,16 @@
 -- The walk through the lines as it is done, home by home: the open lines, outermost first, each with how often it has come in its
 -- parent's instance. No open line is a refusal. 01: "The open line and a count kept for each of the eight depths tell how far it
 -- has come." The laws of proofs/ say what the walk means in terms of placement trees.
-use Prim.Native.Nat.{ℕ, zero, suc, _-_, _≤_, pred}
+use Prim.Native.Nat.{ℕ, zero, suc, _-_, _≤_, _<_, pred}
 use mathlib.Core.Path.{_≡_}
 use mathlib.Core.List.{List, [], _∷_, _++_}
 use mathlib.Core.Bool.{Bool, true, false, cond, not, _&&_}
 use lib.Dec.{eqb, ltb, leb}
-use lib.ListN.{length, getD, take, drop}
+use lib.ListN.{length, getD, set, take, drop}
 use Rattle.placing.specs.Plan.{Plan}
 use Rattle.placing.specs.declared.walk.Level.{Level}
 use Rattle.placing.specs.declared.walk.Walk.{Walk}
+use Rattle.placing.specs.declared.walk.Move.{Move}
 
 abbrev pub level : ℕ → ℕ → Level
 level l n = record { line = l; count = n }
@@ -29,6 +30,12 @@ isTrigger b (suc (suc g)) = b .group (suc g)
 -- a trigger opens its group
 unfoldable pub target : Plan → ℕ → ℕ
 target b l = cond (isTrigger b l) (pred l) l
+
+-- a home is a line of the book, and no group
+pub record SegmentLine (b : Plan) (l : ℕ) : Type 0 where
+  pub some : 0 < l
+  pub within : l ≤ b .lines
+  pub segment : b .group l ≡ false
 
 -- a segment line, whose place (with its group's, if it opens one) lies within the eight depths
 unfoldable pub isPlaceable : Plan → ℕ → Bool
@@ -114,3 +121,20 @@ pub record Ready (w : Walk) : Type 0 where
 pub record StandsFor (b : Plan) (hs : List ℕ) (w : Walk) : Type 0 where
   pub ready : Ready w
   pub lines : openLines w ≡ walked b start hs
+
+-- ---- a move
+
+-- the walk once a move has been made
+abbrev pub made : Move → Walk → Walk
+made m w = record { levels = set (set (w .levels) (m .depth) (m .level)) (m .last) (m .deepest); height = m .height }
+
+-- it changes none but the eight levels
+pub record WithinEight (m : Move) : Type 0 where
+  pub high : m .depth < 8
+  pub deep : m .last < 8
+
+-- after it these lines are open
+pub record Opens (m : Move) (w : Walk) (vs : List Level) : Type 0 where
+  pub within : WithinEight m
+  pub ready : Ready (made m w)
+  pub lines : openLines (made m w) ≡ vs

@@ -1,12 +1,11 @@
-// A segment's home: the least line that it fits. Every line is tried; only `find_home` knows that.
+// A segment's home: the least line that it fits. Every line is tried; only this file knows that.
 ghost use mathlib.Core.Path.{_≡_};
-ghost use Prim.Native.Nat.{_+_, _≤_};
-ghost use mathlib.Core.Bool.{not, _&&_};
-ghost use lib.Dec.{eqb};
+ghost use Prim.Native.Nat.{suc, _+_, _-_, _≤_, _<_, _^_};
 ghost use lib.ListN.{length};
+ghost use Rattle.reading.specs.Tag.{tagAt};
 ghost use Rattle.book.specs.Guide.{guideOf};
-ghost use Rattle.placing.specs.Fitting.{isSelectedAt, homeAt};
-ghost use Rattle.placing.specs.Kept.{Looked, TagsOf};
+ghost use Rattle.placing.specs.Fitting.{isSelectedAt, least, fitsAt, homeAt};
+ghost use Rattle.placing.specs.Kept.{Looked, homeTag, tabledEnd, TagsOf, firstOfTag};
 use crate::code;
 use book::layout;
 use reading::lookup;
@@ -82,56 +81,95 @@ pub const TABLED: usize = 257;
 // Their tags, read once for a pass over a message: the lines' tags are asked for most often of all.
 pub type Tags = [u32; TABLED];
 
-pub fn tags_of(book: &[u8]) -> Tags
-    ensures { λ r. ⌜ TagsOf (guideOf (now (book .entry))) r ⌝ }
+// Greater than a segment's tag, which has three bytes.
+const NO_TAG: u32 = 0x100_0000;
+
+// The tag of the segments that a line can be home to: a group is home to none.
+fn home_tag(book: &[u8], line: u32) -> u32
+    ensures { λ r. ⌜ r ≡ homeTag (guideOf (now (book .entry))) line ⌝ }
+{
+    if layout::kind(book, line) == 2 {
+        return NO_TAG;
+    }
+    layout::tag(book, line)
+}
+
+// The first line whose tag is not in the table: behind the last line, since there is room for all that a good book has.
+pub fn tabled_end(book: &[u8]) -> usize
+    ensures { λ r. ⌜ r ≡ tabledEnd (guideOf (now (book .entry))) ⌝ }
+{
+    let lines = layout::lines(book) as usize;
+    if lines < TABLED {
+        return lines + 1;
+    }
+    TABLED
+}
+
+pub fn tags_of(book: &[u8], end: usize) -> Tags
+    requires { ⌜ end ≡ tabledEnd (guideOf (now book)) ⌝ }
+    ensures { λ r. ⌜ TagsOf (guideOf (now (book .entry))) end r ⌝ }
 {
     let mut tags = [0u32; TABLED];
-    let mut line: u32 = 0;
-    while (line as usize) < TABLED {
-        tags[line as usize] = layout::tag(book, line);
+    let mut line: usize = 0;
+    while line < end {
+        tags[line] = home_tag(book, line as u32);
         line += 1;
     }
     tags
 }
 
-fn tag_of(book: &[u8], tags: &Tags, line: u32) -> u32
-    requires { ⌜ TagsOf (guideOf (now book)) (now tags) ⌝ }
-    ensures { λ r. ⌜ r ≡ guideOf (now (book .entry)) .tag line ⌝ }
+// The same of any line.
+fn tag_of(book: &[u8], tags: &Tags, end: usize, line: u32) -> u32
+    requires { ⌜ TagsOf (guideOf (now book)) end (now tags) ⌝ }
+    ensures { λ r. ⌜ r ≡ homeTag (guideOf (now (book .entry))) line ⌝ }
 {
-    if (line as usize) < TABLED {
+    if (line as usize) < end {
         return tags[line as usize];
     }
-    layout::tag(book, line)
+    home_tag(book, line)
 }
 
-// Is it a segment line of this tag?
-fn has_tag(book: &[u8], tags: &Tags, line: u32, tag: u32) -> bool
-    requires { ⌜ TagsOf (guideOf (now book)) (now tags) ⌝ }
-    ensures { λ r. ⌜ r ≡ (eqb (guideOf (now (book .entry)) .tag line) tag && not (eqb (guideOf (now (book .entry)) .kind line) 2)) ⌝ }
+// The least line of this tag in the table; 0 if there is none. The lines of other tags are passed over here, and nothing but tags
+// is compared.
+fn first_of_tag(tags: &Tags, end: usize, tag: u32) -> u32
+    requires { ⌜ end ≤ 257 ⌝ }
+    ensures { λ r. ⌜ r ≡ firstOfTag (now (tags .entry)) end tag ⌝ }
 {
-    if tag_of(book, tags, line) != tag {
-        return false;
+    let mut line: usize = 1;
+    while line < end {
+        if tags[line] == tag {
+            return line as u32;
+        }
+        line += 1;
     }
-    layout::kind(book, line) != 2
+    0
 }
 
-// The home of the segment that starts at an offset, with three bytes at least; 0 if it has none.
-pub fn find_home(service: Service, message: &[u8], at: usize, book: &[u8], tags: &Tags) -> u32
-    requires { ⌜ (at + 3 ≤ length (now message)) × TagsOf (guideOf (now book)) (now tags) ⌝ }
-    ensures { λ r. ⌜ r ≡ homeAt service (guideOf (now (book .entry))) (now (message .entry)) at ⌝ }
+// The least line, from the first one on, that the segment fits; 0 if there is none.
+fn find_from(
+    service: Service,
+    message: &[u8],
+    at: usize,
+    book: &[u8],
+    tags: &Tags,
+    end: usize,
+    tag: u32,
+    first: u32,
+) -> u32
+    requires { ⌜ (at + 3 ≤ length (now message)) × TagsOf (guideOf (now book)) end (now tags) × ((tag ≡ tagAt (now message) at) × (tag < 2 ^ 24)) ⌝ }
+    ensures { λ r. ⌜ r ≡ least (fitsAt service (guideOf (now (book .entry))) (now (message .entry)) at) first (suc (guideOf (now (book .entry)) .lines) - first) ⌝ }
 {
-    let tag = tag::tag_at(message, at);
     let lines = layout::lines(book);
     let mut selected = Selected {
         element: 0,
         component: 0,
         span: Span::empty_at(at),
     };
-    let mut line: u32 = 1;
+    let mut line = first;
     while line <= lines {
         let tried = line;
         line += 1;
-        if has_tag(book, tags, tried, tag) {
+        if tag_of(book, tags, end, tried) == tag {
             selected = select(service, message, at, book, tried, selected);
             if is_selected(service, message, at, book, tried, selected) {
                 return tried;
@@ -139,4 +177,28 @@ pub fn find_home(service: Service, message: &[u8], at: usize, book: &[u8], tags:
         }
     }
     0
+}
+
+// The home of the segment that starts at an offset, with three bytes at least; 0 if it has none. The first line of its tag is its
+// home, where that has no selector. Else the lines from there on are tried, or those that the table has no room for.
+pub fn find_home(
+    service: Service,
+    message: &[u8],
+    at: usize,
+    book: &[u8],
+    tags: &Tags,
+    end: usize,
+) -> u32
+    requires { ⌜ (at + 3 ≤ length (now message)) × TagsOf (guideOf (now book)) end (now tags) ⌝ }
+    ensures { λ r. ⌜ r ≡ homeAt service (guideOf (now (book .entry))) (now (message .entry)) at ⌝ }
+{
+    let tag = tag::tag_at(message, at);
+    let first = first_of_tag(tags, end, tag);
+    if first == 0 {
+        return find_from(service, message, at, book, tags, end, tag, end as u32);
+    }
+    if layout::selector_element(book, first) == 0 {
+        return first;
+    }
+    find_from(service, message, at, book, tags, end, tag, first)
 }

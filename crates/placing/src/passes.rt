@@ -48,7 +48,8 @@ fn outcome_of(stop: u32) -> Placing
 pub fn test_placing(service: Service, message: &[u8], segments: u32, book: &[u8]) -> Placing
     ensures { λ r. ⌜ r ≡ tested (planIn (now (book .entry))) (homesFrom service (now (message .entry)) (now (book .entry)) segments 0) ⌝ }
 {
-    let tags = home::tags_of(book);
+    let end = home::tabled_end(book);
+    let tags = home::tags_of(book, end);
     let mut cursor = Cursor::first();
     let mut walk = Walk::begin();
     let mut stop: u32 = 0;
@@ -57,12 +58,19 @@ pub fn test_placing(service: Service, message: &[u8], segments: u32, book: &[u8]
         let at = cursor.at;
         match cursor.next_segment(service, message) {
             Found::Segment(_, next) => {
-                let home = home::find_home(service, message, at, book, &tags);
+                let home = home::find_home(service, message, at, book, &tags, end);
                 place += 1;
                 if home == 0 {
                     return Placing::NoHome(place);
                 }
-                walk = walk::advance(book, walk, home);
+                let moved = walk::advance(book, walk, home);
+                let depth = moved.depth;
+                let level = moved.level;
+                let last = moved.last;
+                let deepest = moved.deepest;
+                walk.levels[depth] = level;
+                walk.levels[last] = deepest;
+                walk.height = moved.height;
                 stop = first_stop(stop, walk.is_alive(), place);
                 cursor = next;
             }
@@ -106,7 +114,8 @@ pub fn write_tree(
         × (now (homes .exit) ≡ homesTable service (now (message .entry)) (now (book .entry)) segments (now (homes .entry)))
         × (now (parents .exit) ≡ parentsTable service (now (message .entry)) (now (book .entry)) segments (now (parents .entry))) ⌝ }
 {
-    let tags = home::tags_of(book);
+    let end = home::tabled_end(book);
+    let tags = home::tags_of(book, end);
     let mut cursor = Cursor::first();
     let mut trail = Trail::begin();
     let mut place: u32 = 0;
@@ -115,7 +124,7 @@ pub fn write_tree(
         let at = cursor.at;
         match cursor.next_segment(service, message) {
             Found::Segment(_, next) => {
-                let home = home::find_home(service, message, at, book, &tags);
+                let home = home::find_home(service, message, at, book, &tags, end);
                 put(starts, place, entry_of(at));
                 put(homes, place, home);
                 put(parents, place, tree::parent_of(book, trail, home));

@@ -5,7 +5,8 @@ ghost use mathlib.Core.Bool.{cond};
 ghost use Prim.Native.Nat.{ℕ, suc, _+_, _-_, _≤_, _<_, _^_};
 ghost use lib.ListN.{getD, take, drop};
 ghost use Rattle.placing.specs.Plan.{Plan, planIn};
-ghost use Rattle.placing.specs.Walking.{isTrigger, target, isPlaceable, isWanted, isClear, isPassed, canClose, canCloseAll, canMove, raised, level, entered, walked, start, isAlive, openLines, Ready, StandsFor};
+ghost use Rattle.placing.specs.declared.walk.Walk.{Walk};
+ghost use Rattle.placing.specs.Walking.{isTrigger, target, isWanted, isClear, isPassed, canClose, canCloseAll, canMove, raised, level, entered, walked, start, isAlive, openLines, Ready, StandsFor, SegmentLine, WithinEight, Opens, made};
 use book::layout;
 
 // An open line and how often it has come in its parent's instance.
@@ -71,21 +72,6 @@ fn depths_for(opens: bool) -> usize
         return 7;
     }
     8
-}
-
-fn is_placeable(book: &[u8], line: u32) -> bool
-    ensures { λ r. ⌜ r ≡ isPlaceable (planIn (now (book .entry))) line ⌝ }
-{
-    if line == 0 {
-        return false;
-    }
-    if layout::lines(book) < line {
-        return false;
-    }
-    if is_group(book, line) {
-        return false;
-    }
-    target_depth(book, line) < depths_for(is_trigger(book, line))
 }
 
 // ---- leaving lines out
@@ -227,55 +213,79 @@ impl Walk {
         let count = self.levels[depth].count;
         Level { line, count }
     }
+}
 
-    // With this line open at this depth and nothing below it but, where it opens an instance, that one's trigger.
-    fn with_level(self, depth: usize, level: Level, opens: bool, trigger: u32) -> Walk
-        requires { ⌜ Ready self × (depth ≤ self .height) × (depth < cond opens 7 8) ⌝ }
-        ensures { λ r. ⌜ Ready r × (openLines r ≡ (take depth (openLines self) ++ (level ∷ [])) ++ entered opens trigger) ⌝ }
-    {
-        let mut walk = self;
-        walk.levels[depth] = level;
-        if !opens {
-            walk.height = depth + 1;
-            return walk;
-        }
-        walk.levels[depth + 1] = Level {
-            line: trigger,
-            count: 1,
-        };
-        walk.height = depth + 2;
-        walk
-    }
+// What a home changes of a walk: the open line of its depth, the last open line (the trigger, where it opens an instance; else the
+// same one again) and the height.
+pub struct Move {
+    pub depth: usize,
+    pub level: Level,
+    pub last: usize,
+    pub deepest: Level,
+    pub height: usize,
+}
 
-    fn refused(self) -> Walk
-        requires { ⌜ Ready self ⌝ }
-        ensures { λ r. ⌜ Ready r × (openLines r ≡ []) ⌝ }
-    {
-        let mut walk = self;
-        walk.height = 0;
-        walk
+// No line is open any more.
+fn refusal() -> Move
+    ensures { λ r. ⌜ ((w : Walk) → Ready w → Opens r w []) ⌝ }
+{
+    let nothing = Level { line: 0, count: 0 };
+    Move {
+        depth: 0,
+        level: nothing,
+        last: 0,
+        deepest: nothing,
+        height: 0,
     }
 }
 
-// One home more: a walk that stands for some homes now stands for one more.
-pub fn advance(book: &[u8], walk: Walk, home: u32) -> Walk
-    requires { ⌜ Ready walk ⌝ }
-    ensures { λ r. ⌜ Ready r × ((hs : List ℕ) → StandsFor (planIn (now (book .entry))) hs walk → StandsFor (planIn (now (book .entry))) (hs ++ (home ∷ [])) r) ⌝ }
+// This line is open then at this depth, and nothing below it but, where it opens an instance, that one's trigger.
+fn move_to(depth: usize, level: Level, opens: bool, trigger: u32) -> Move
+    requires { ⌜ depth < cond opens 7 8 ⌝ }
+    ensures { λ r. ⌜ ((w : Walk) → Ready w → depth ≤ w .height → Opens r w ((take depth (openLines w) ++ (level ∷ [])) ++ entered opens trigger)) ⌝ }
 {
-    if !is_placeable(book, home) {
-        return walk.refused();
+    if !opens {
+        return Move {
+            depth,
+            level,
+            last: depth,
+            deepest: level,
+            height: depth + 1,
+        };
     }
+    Move {
+        depth,
+        level,
+        last: depth + 1,
+        deepest: Level {
+            line: trigger,
+            count: 1,
+        },
+        height: depth + 2,
+    }
+}
+
+// One home more: once the move is made, a walk that stands for some homes stands for one more. The pass makes it, since a walk that
+// is handed back would be copied for each segment, all eight levels.
+pub fn advance(book: &[u8], walk: Walk, home: u32) -> Move
+    requires { ⌜ Ready walk × SegmentLine (planIn (now book)) home ⌝ }
+    ensures { λ r. ⌜ WithinEight r × ((hs : List ℕ) → StandsFor (planIn (now (book .entry))) hs walk → StandsFor (planIn (now (book .entry))) (hs ++ (home ∷ [])) (made r walk)) ⌝ }
+{
+    let opens = is_trigger(book, home);
     let to = target_of(book, home);
     let depth = depth_of(book, to);
+    if depths_for(opens) <= depth {
+        return refusal();
+    }
     if walk.height <= depth {
-        return walk.refused();
+        return refusal();
     }
     let level = walk.level_at(depth);
     if !can_move(book, level, to) {
-        return walk.refused();
+        return refusal();
     }
     if !closes_below(book, walk, depth + 1) {
-        return walk.refused();
+        return refusal();
     }
-    walk.with_level(depth, raise(level, to), is_trigger(book, home), home)
+    move_to(depth, raise(level, to), opens, home)
 }

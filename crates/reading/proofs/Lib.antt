@@ -1,6 +1,6 @@
 -- Laws of the reading. First how the loops of the code run through the definitions, then what the definitions mean.
-pub mod Progressing
 pub mod Ending
+pub mod Scanning
 pub mod Seeking
 pub mod Comparing
 pub mod Services

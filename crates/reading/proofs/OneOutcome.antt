@@ -5,14 +5,13 @@ use Rattle.reading.proofs.service.Service.standard.Reads as standard
 use Rattle.reading.proofs.bytes.is_data.Reads as is-data
 use Rattle.reading.proofs.bytes.is_tag_byte.Reads as is-tag-byte
 use Rattle.reading.proofs.bytes.kind_of.Reads as kind-of
+use Rattle.reading.proofs.bytes.must_release.Reads as must-release
 use Rattle.reading.proofs.machine.step.Reads as step
-use Rattle.reading.proofs.machine.is_start.Reads as is-start
 use Rattle.reading.proofs.machine.is_dead.Reads as is-dead
-use Rattle.reading.proofs.progress.read_segments.Reads as read-segments
-use Rattle.reading.proofs.progress.has_ended.Reads as has-ended
+use Rattle.reading.proofs.segment.find_end.Reads as find-end
+use Rattle.reading.proofs.scan.find_bad.Reads as find-bad
 use Rattle.reading.proofs.scan.scan.Reads as scan
 use Rattle.reading.proofs.bytes.is_text.Reads as is-text
-use Rattle.reading.proofs.machine.is_inside.Reads as is-inside
 use Rattle.reading.proofs.span.Span.empty_at.Reads as empty-at
 use Rattle.reading.proofs.cursor.segment_end.Reads as segment-end
 use Rattle.reading.proofs.cursor.Cursor.first.Reads as first
@@ -42,23 +41,20 @@ one-kind-of κs a r q x y m n = m ∙ sym n
 pub one-is-text : One is-text.Post
 one-is-text κs a r q x y m n = m ∙ sym n
 
+pub one-must-release : One must-release.Post
+one-must-release κs a r q x y m n = m ∙ sym n
+
 pub one-step : One step.Post
 one-step κs a r q x y m n = m ∙ sym n
-
-pub one-is-start : One is-start.Post
-one-is-start κs a r q x y m n = m ∙ sym n
 
 pub one-is-dead : One is-dead.Post
 one-is-dead κs a r q x y m n = m ∙ sym n
 
-pub one-is-inside : One is-inside.Post
-one-is-inside κs a r q x y m n = m ∙ sym n
+pub one-find-end : One find-end.Post
+one-find-end κs a r q x y m n = m ∙ sym n
 
-pub one-read-segments : One read-segments.Post
-one-read-segments κs a r q x y m n = m ∙ sym n
-
-pub one-has-ended : One has-ended.Post
-one-has-ended κs a r q x y m n = m ∙ sym n
+pub one-find-bad : One find-bad.Post
+one-find-bad κs a r q x y m n = m ∙ sym n
 
 pub one-scan : One scan.Post
 one-scan κs a r q x y m n = m ∙ sym n

@@ -4,11 +4,13 @@ use native.Mathlib.Omega.{arith}
 use native.Mathlib.Numerals.{add-one}
 use mathlib.Core.Path.{_≡_, refl, sym, ap, ap₂, _∙_, subst}
 use mathlib.Core.List.{List, [], _∷_}
-use mathlib.Core.Bool.{Bool, true, false, _&&_}
+use mathlib.Core.Bool.{Bool, true, false, true≢false, _&&_, _||_}
+use mathlib.Core.Logic.{_⊎_, inl, inr, ⊎-elim}
 use lib.Dec.{eqb}
 use lib.ListN.{length, getD, drop, drop-of-length-le, length-drop}
 use lib.Seq.{drop-cons}
 use borrow.Author.Tests.{eq-eqb, ne-eqb}
+use Rattle.reading.specs.Service.{isData, mustRelease}
 use Rattle.reading.specs.Component.{span}
 use Rattle.reading.specs.Machine.{Seek, Sought, On, Ends, pick, kindOf, seek, isHere, endsComponent, passed, sought, goOn, seekOn, seekFrom, spanBy, componentSpan, segmentEnd}
 use Rattle.reading.specs.declared.service.Service.{Service}
@@ -76,6 +78,22 @@ keeps : (e c at : ℕ) (k : Seek) (kind : Kind) → Kept at k → Keeps at (soug
 keeps e c at k kind h =
     keeps-pick (k .released) at _ _ (kept-later at k false h)
     (keeps-pick (endsComponent kind && isHere k e c) at _ _ (let d = h .started in (omega arith, omega arith)) (keeps-passed at k kind h))
+
+-- ---- a byte that no mark is
+
+unmarked-by : (r c e t d : Bool) → (r || (c || (e || t))) ≡ false
+    → (pick r Release (pick c Component (pick e Element (pick t Terminator (pick d Plain Other)))) ≡ Plain)
+    ⊎ (pick r Release (pick c Component (pick e Element (pick t Terminator (pick d Plain Other)))) ≡ Other)
+unmarked-by true c e t d h = absurd (true≢false h)
+unmarked-by false true e t d h = absurd (true≢false h)
+unmarked-by false false true t d h = absurd (true≢false h)
+unmarked-by false false false true d h = absurd (true≢false h)
+unmarked-by false false false false true h = inl refl
+unmarked-by false false false false false h = inr refl
+
+pub unmarked : (s : Service) (b : ℕ) → mustRelease s b ≡ false → (kindOf s b ≡ Plain) ⊎ (kindOf s b ≡ Other)
+unfolding mustRelease kindOf
+unmarked s b h = unmarked-by (eqb b (s .release)) (eqb b (s .component)) (eqb b (s .element)) (eqb b (s .terminator)) (isData b) h
 
 -- ---- turn by turn
 
@@ -145,6 +163,10 @@ module _ (s : Service) (bs : List ℕ) (from e c : ℕ) where
 
       pub seek-other : kind ≡ Other → Seeking s bs from e c (seek ea ca st released) (at + 1)
       seek-other is = still-free ea ca st (seeking-on (seek ea ca st false) (seek ea ca st false) at kind h i ek (sym (passing Other is refl)))
+
+      -- a byte that need not be released is one of these two
+      pub seek-text : mustRelease s (getD bs at 0) ≡ false → Seeking s bs from e c (seek ea ca st released) (at + 1)
+      seek-text t = ⊎-elim (λ p. seek-plain (ek ∙ p)) (λ p. seek-other (ek ∙ p)) (unmarked s (getD bs at 0) t)
 
       -- the one that is sought ends; and at the terminator an absent one lies
       pub seek-found : (known : Kind) → kind ≡ known → endsComponent known ≡ true → (eqb ea e && eqb ca c) ≡ true → span st at ≡ seekFrom s bs from e c

@@ -7,3 +7,4 @@ pub mod Machine
 pub mod Part
 pub mod Tag
 pub mod Limits
+pub mod Kept

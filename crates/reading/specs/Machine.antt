@@ -1,7 +1,6 @@
 -- The reading as it is done, byte by byte: definitions that compute, total for any five service characters.
 -- The laws of proofs/ say that, under a good set, they mean what Message, WellFormed and Component say.
-use Prim.Native.Nat.{ℕ, _+_, _≤_}
-use mathlib.Core.Path.{_≡_}
+use Prim.Native.Nat.{ℕ, _+_}
 use mathlib.Core.List.{List, [], _∷_}
 use mathlib.Core.Bool.{Bool, true, false, not, _&&_}
 use lib.Dec.{eqb, ltb}
@@ -14,7 +13,6 @@ use Rattle.reading.specs.declared.bytes.Kind.{Kind}
 use Rattle.reading.specs.declared.bytes.Kind.the-variants.{Component, Element, Terminator, Release, Plain, Other}
 use Rattle.reading.specs.declared.machine.State.{State}
 use Rattle.reading.specs.declared.machine.State.the-variants.{Start, Second, Third, Tagged, Inside, Released, Dead}
-use Rattle.reading.specs.declared.progress.Progress.{Progress}
 use Rattle.reading.specs.declared.scan.Outcome.{Outcome}
 use Rattle.reading.specs.declared.scan.Outcome.the-variants.{Segments, BadAt}
 use Rattle.reading.specs.declared.cursor.End.{End}
@@ -98,42 +96,11 @@ isDead Inside = false
 isDead Released = false
 isDead Dead = true
 
-abbrev pub isInside : State → Bool
-isInside Start = false
-isInside Second = false
-isInside Third = false
-isInside Tagged = false
-isInside Inside = true
-isInside Released = false
-isInside Dead = false
+-- ---- a scan
 
--- ---- reading on: n segments have ended before the byte at `at`, and `most` are asked for
-
+-- of so many segments that have ended before the byte at `at`
 abbrev pub ended : State → ℕ → ℕ
 ended p n = pick (isStart p) (n + 1) n
-
-abbrev pub progress : State → ℕ → ℕ → Progress
-progress p n at = record { state = p; segments = n; at = at }
-
-unfoldable pub readOn : Service → ℕ → State → ℕ → ℕ → List ℕ → Progress
-readOn s most p n at [] = progress p n at
-readOn s most p n at (b ∷ bs) =
-    pick (isDead (stepped s p b)) (progress (stepped s p b) n at)
-    (pick (isStart (stepped s p b) && eqb (n + 1) most) (progress (stepped s p b) (n + 1) at)
-    (readOn s most (stepped s p b) (ended (stepped s p b) n) (at + 1) bs))
-
-abbrev pub progressed : Service → List ℕ → ℕ → ℕ → Progress
-progressed s bs from most = readOn s most Start 0 from (drop from bs)
-
--- from `to` on, in state q, reading goes as from `from` on in state p: no segment ends between them
-pub record Alike (s : Service) (bs : List ℕ) (p : State) (from : ℕ) (q : State) (to : ℕ) : Type 0 where
-  pub on : from ≤ to
-  pub same : (most n : ℕ) → readOn s most p n from (drop from bs) ≡ readOn s most q n to (drop to bs)
-
-unfoldable pub hasEnded : Progress → Bool
-hasEnded x = isStart (x .state) && ltb 0 (x .segments)
-
--- ---- a scan
 
 abbrev pub finished : State → ℕ → ℕ → Outcome
 finished p n at = pick (isStart p && ltb 0 n) (Segments n) (BadAt at)
@@ -145,6 +112,14 @@ scanOn s p n at (b ∷ bs) = pick (isDead (stepped s p b)) (BadAt at) (scanOn s 
 abbrev pub scanned : Service → List ℕ → Outcome
 scanned s bs = scanOn s Start 0 0 bs
 
+-- the first byte behind which reading is past a fault; the end if there is none
+unfoldable pub badOn : Service → State → ℕ → List ℕ → ℕ
+badOn s p at [] = at
+badOn s p at (b ∷ bs) = pick (isDead (stepped s p b)) at (badOn s (stepped s p b) (at + 1) bs)
+
+abbrev pub badFrom : Service → List ℕ → ℕ → ℕ
+badFrom s bs from = badOn s Start from (drop from bs)
+
 -- ---- a segment's end
 
 unfoldable pub endOn : Service → State → ℕ → List ℕ → End
@@ -155,6 +130,11 @@ endOn s p at (b ∷ bs) =
 
 abbrev pub segmentEnd : Service → List ℕ → ℕ → End
 segmentEnd s bs at = endOn s Start at (drop at bs)
+
+-- as a number, which is the message's length where there is none
+abbrev pub orLength : List ℕ → End → ℕ
+orLength bs (At end) = end
+orLength bs Nowhere = length bs
 
 abbrev pub foundBy : ℕ → End → Found
 foundBy at (At end) = Segment (span at end) (record { at = end + 1 })

@@ -1,6 +1,6 @@
 // What one byte is: the only place that tests a byte's value.
 ghost use mathlib.Core.Path.{_≡_};
-ghost use Rattle.reading.specs.Service.{isData, isTagByte};
+ghost use Rattle.reading.specs.Service.{isData, isTagByte, mustRelease};
 ghost use Rattle.reading.specs.Machine.{kindOf, isText};
 use crate::service::Service;
 
@@ -79,4 +79,20 @@ pub fn is_text(service: Service, byte: u8) -> bool
         return false;
     }
     is_data(byte)
+}
+
+// Does the byte stand for itself only behind a release? Few bytes of a message do.
+pub fn must_release(service: Service, byte: u8) -> bool
+    ensures { λ r. ⌜ r ≡ mustRelease service byte ⌝ }
+{
+    if byte == service.release {
+        return true;
+    }
+    if byte == service.component {
+        return true;
+    }
+    if byte == service.element {
+        return true;
+    }
+    byte == service.terminator
 }

@@ -1,7 +1,7 @@
 // A reading place that moves on from segment to segment.
 ghost use mathlib.Core.Path.{_≡_};
 ghost use Rattle.reading.specs.Machine.{segmentEnd, nextSegment};
-use crate::progress;
+use crate::segment;
 use crate::service::Service;
 use crate::span::Span;
 
@@ -25,9 +25,9 @@ pub enum Found {
 pub fn segment_end(service: Service, message: &[u8], at: usize) -> End
     ensures { λ r. ⌜ r ≡ segmentEnd service (now (message .entry)) at ⌝ }
 {
-    let progress = progress::read_segments(service, message, at, 1);
-    if progress::has_ended(progress) {
-        return End::At(progress.at);
+    let end = segment::find_end(service, message, at);
+    if end < message.len() {
+        return End::At(end);
     }
     End::Nowhere
 }

@@ -40,12 +40,12 @@ pub fn seek_from(
     let mut position = from;
     while position < message.len() {
         let at = position;
-        let kind = bytes::kind_of(service, message[at]);
+        let byte = message[at];
         position += 1;
         if released {
             released = false;
-        } else {
-            match kind {
+        } else if bytes::must_release(service, byte) {
+            match bytes::kind_of(service, byte) {
                 Kind::Component => {
                     if is_here(elements, components, element, component) {
                         return Span { start, end: at };

@@ -1,11 +1,29 @@
 //! What the comparing programs are called with.
 
+use crate::book::{check, Book};
+
 /// Where random inputs begin if nothing is said.
 pub const DEFAULT_SEED: u64 = 9735;
 
 pub struct BooksAndSeed {
     pub books: [String; 2],
     pub seed: u64,
+}
+
+impl BooksAndSeed {
+    /// The books by their paths; why one of them cannot be taken, if so.
+    pub fn good_books(&self) -> Result<Vec<(String, Book)>, String> {
+        let named = |path: &String| match read_book(path) {
+            Ok(book) => Ok((path.clone(), book)),
+            Err(error) => Err(format!("{path}: {error}")),
+        };
+        self.books.iter().map(named).collect()
+    }
+}
+
+fn read_book(path: &str) -> Result<Book, String> {
+    let bytes = std::fs::read(path).map_err(|error| error.to_string())?;
+    check(&bytes).map_err(|fault| format!("malformed: {fault:?}"))
 }
 
 /// `[SEED]`, or nothing if the words are others.

@@ -14,8 +14,9 @@
 //!   yardstick
 //! - [`archives`]: safe calls into the proved archives
 //! - [`enumeration`], [`random`], [`writing`]: where the compared texts come from
-//! - [`arguments`], [`hex`], [`described`]: what the programs are called with,
-//!   leave behind and print
+//! - [`planned`]: books that benchmarks and comparisons are run over
+//! - [`arguments`], [`lent`], [`times`], [`difference`], [`described`]: what the
+//!   programs are called with, lend, measure, leave behind and print
 //!
 //! `cargo test` tests the judge itself and needs no archive. The programs link
 //! `libtracksaddle.a`, `libreading_probe.a` and `libplacing_probe.a` from the
@@ -41,11 +42,14 @@ pub mod arguments;
 pub mod book;
 pub mod bytes;
 pub mod described;
+pub mod difference;
 pub mod enumeration;
-pub mod hex;
 pub mod judging;
+pub mod lent;
 pub mod machine;
 pub mod placing;
+pub mod planned;
 pub mod random;
 pub mod reading;
+pub mod times;
 pub mod writing;

@@ -4,73 +4,18 @@
 //! refuses none, but for answers that differ.
 
 use independent::archives;
-use independent::book::edit::{insert_line, optional_line, set_selector, smallest_book};
 use independent::book::encode::encode;
-use independent::book::{
-    check, Book, Condition, Expression, Field, Form, Joint, Kind, Line, Presence, Row,
-};
+use independent::book::{Book, Condition, Expression, Field, Form, Joint, Presence, Row};
 use independent::judging::{judge, LONGEST_MESSAGE, MOST_SEGMENTS};
-use std::hint::black_box;
-use std::time::{Duration, Instant};
+use independent::planned::{
+    book_k_with_room, count_segments, planned_book, HEAD_OF_K, LARGE_BOOK, POSITION_OF_K,
+};
+use independent::times::Times;
 
 const ROUNDS: usize = 7;
 
-const BOOK_K: &[u8] = include_bytes!("../../../../books/k.bin");
-const SMALL_HEAD: &str = "UNH+1'BGM+7'RFF+Z13:10001'";
-const SMALL_POSITION: [&str; 2] = ["LIN+1'", "QTY+145:5'"];
 const SMALL_TAIL: &str = "";
 
-/// A line of a book: depth, tag (none for a group), whether required, maximum,
-/// and the codes at element 1, component 1.
-type Plan = (u8, &'static str, bool, u32, &'static [&'static str]);
-
-const GROUP: &str = "";
-const M: bool = true;
-const O: bool = false;
-
-/// Of the first book's size, and with tags that share lines as there.
-const LARGE_BOOK: [Plan; 40] = [
-    (0, "UNH", M, 1, &[]),
-    (0, "BGM", M, 1, &[]),
-    (0, "DTM", M, 1, &["137"]),
-    (0, "IMD", O, 1, &[]),
-    (0, "ALI", O, 1, &[]),
-    (0, "FTX", O, 1, &[]),
-    (0, GROUP, M, 1, &[]),
-    (1, "RFF", M, 1, &["Z13"]),
-    (0, GROUP, O, 1, &[]),
-    (1, "RFF", M, 1, &["ACW", "AAV"]),
-    (1, "DTM", O, 1, &["171"]),
-    (0, GROUP, M, 1, &[]),
-    (1, "NAD", M, 1, &["MS"]),
-    (1, GROUP, O, 1, &[]),
-    (2, "CTA", M, 1, &[]),
-    (2, "COM", O, 5, &[]),
-    (0, GROUP, M, 1, &[]),
-    (1, "NAD", M, 1, &["MR"]),
-    (0, GROUP, O, 9, &[]),
-    (1, "NAD", M, 1, &["DP", "VY"]),
-    (1, "LOC", O, 1, &["172"]),
-    (0, GROUP, O, 200_000, &[]),
-    (1, "LIN", M, 1, &[]),
-    (1, "PIA", O, 1, &[]),
-    (1, "QTY", O, 1, &["145", "220"]),
-    (1, "DTM", O, 1, &["163"]),
-    (1, "DTM", O, 1, &["164"]),
-    (1, "MOA", O, 1, &["203"]),
-    (1, GROUP, O, 3, &[]),
-    (2, "RFF", M, 1, &["MG"]),
-    (1, GROUP, O, 1, &[]),
-    (2, "RFF", M, 1, &["Z09", "Z10"]),
-    (2, "DTM", O, 1, &["203"]),
-    (1, GROUP, O, 5, &[]),
-    (2, "CCI", M, 1, &["Z15", "Z16", "Z17"]),
-    (2, "CAV", O, 9, &[]),
-    (0, "UNS", M, 1, &[]),
-    (0, "MOA", O, 1, &["9"]),
-    (0, "CNT", O, 1, &[]),
-    (0, "UNT", M, 1, &[]),
-];
 const LARGE_HEAD: &str = "UNH+1+ORDRSP:D:10A:UN:1.1i'BGM+Z10+MKIDI5422'DTM+137:201101311215:203'\
                           RFF+Z13:10001'NAD+MS+9900259000002::293'NAD+MR+9900259000002::293'";
 const LARGE_POSITION: [&str; 9] = [
@@ -150,10 +95,10 @@ fn main() {
     );
     measure_book(&Sample {
         name: "book K with a group of maximum 999,999",
-        book: encode(&small_book()),
+        book: encode(&book_k_with_room()),
         conditions: vec![1],
-        head: SMALL_HEAD,
-        position: &SMALL_POSITION,
+        head: HEAD_OF_K,
+        position: &POSITION_OF_K,
         tail: SMALL_TAIL,
     });
     measure_book(&Sample {
@@ -166,29 +111,9 @@ fn main() {
     });
 }
 
-fn small_book() -> Book {
-    let mut book = check(BOOK_K).expect("a good book");
-    book.lines[3].maximum = 999_999;
-    book
-}
-
-/// UNH and UNT, which every plan has, are there from the start.
 fn large_book() -> Book {
-    let mut book = smallest_book();
+    let mut book = planned_book(&LARGE_BOOK);
     book.conditions = LARGE_CONDITIONS.len();
-    for (index, plan) in LARGE_BOOK.into_iter().enumerate() {
-        let (_, tag, _, _, codes) = plan;
-        if tag != "UNH" && tag != "UNT" {
-            insert_line(&mut book, index, planned_line(plan));
-        }
-        let first = book.codes.len();
-        let codes = codes.iter().map(|code| code.as_bytes().to_vec());
-        book.codes.extend(codes);
-        let codes = first..book.codes.len();
-        if !codes.is_empty() {
-            set_selector(&mut book, index, (1, 1), codes);
-        }
-    }
     for index in 0..book.lines.len() {
         add_fields(&mut book, index);
     }
@@ -199,19 +124,6 @@ fn large_book() -> Book {
     rows[MOA - 1] = Row::MayIf(expression(Joint::All, &[(2, false), (3, false)]));
     rows[GROUP_OF_Z10 - 1] = Row::MustIf(expression(Joint::All, &[(3, true)]));
     book
-}
-
-fn planned_line((depth, tag, required, maximum, _): Plan) -> Line {
-    let kind = match tag.as_bytes().try_into() {
-        Ok(tag) => optional_line(tag, depth).kind,
-        Err(_) => Kind::Group,
-    };
-    Line {
-        depth,
-        required,
-        maximum,
-        kind,
-    }
 }
 
 /// The line's codes are allowed at element 1, component 1 alone.
@@ -276,10 +188,6 @@ impl Sample {
     }
 }
 
-fn count_segments(text: &str) -> usize {
-    text.matches('\'').count()
-}
-
 #[derive(Clone, Copy)]
 enum Where {
     Early,
@@ -310,7 +218,7 @@ fn measure(sample: &Sample, name: &str, message: Vec<u8>, number: u32) {
     let (book, conditions) = (&sample.book, &sample.conditions);
     let empty = [(); 3].map(|()| vec![u32::MAX; MOST_SEGMENTS]);
     let (mut written, mut answered) = (empty.clone(), empty);
-    let (mut ordinary, mut library) = (Times::new(), Times::new());
+    let (mut ordinary, mut library) = (Times::default(), Times::default());
     let mut record = [0; 6];
     for _ in 0..ROUNDS {
         let [starts, homes, parents] = &mut written;
@@ -330,27 +238,4 @@ fn measure(sample: &Sample, name: &str, message: Vec<u8>, number: u32) {
         library * 1e3,
         ordinary / library
     );
-}
-
-struct Times {
-    all: Vec<Duration>,
-}
-
-impl Times {
-    fn new() -> Times {
-        Times { all: Vec::new() }
-    }
-
-    fn run<T>(&mut self, work: impl FnOnce() -> T) -> T {
-        let begin = Instant::now();
-        let result = black_box(work());
-        self.all.push(begin.elapsed());
-        result
-    }
-
-    /// In seconds.
-    fn median(&mut self) -> f64 {
-        self.all.sort();
-        self.all[self.all.len() / 2].as_secs_f64()
-    }
 }

@@ -2,10 +2,10 @@
 -- of the bytes read are releases.
 use Prim.Native.Nat.{_-_}
 use native.Mathlib.Omega.{arith}
-use mathlib.Core.Path.{sym, _∙_}
+use mathlib.Core.Path.{refl, sym, _∙_}
 use lib.ListN.{length}
+use Rattle.fields.proofs.Cutting.{Free, free-begin, free-few, free-end, free-data, free-text, free-release, free-out, free-done}
 use borrow.Author.Needs.{needs}
-use Rattle.fields.proofs.Cutting.{Free, free-begin, free-few, free-end, free-data, free-release, free-out, free-done}
 use Rattle.fields.proofs.parts.read_component.Statement.{statement}
 use Rattle.fields.proofs.parts.read_component.Tie as tie
 
@@ -18,47 +18,56 @@ abbrev μ-loop : tie.MeasureT-loop
 loop-holds : tie.Need-loop-holds Inv-loop μ-loop
 loop-holds c = free-begin (c .before .args .service) (c .before .args .message .now) (c .before .args .from) (c .before .pre)
 
-shared-slice-read-kind-of : tie.Need-shared-slice-read-kind-of Inv-loop μ-loop
-shared-slice-read-kind-of c = omega (arith, (c .before .loop-test .taken))
+shared-slice-read-byte : tie.Need-shared-slice-read-byte Inv-loop μ-loop
+shared-slice-read-byte c = omega (arith, (c .before .loop-test .taken))
+
+add-position : tie.Need-add-position Inv-loop μ-loop
+add-position c = omega (arith, (c .before .loop-test .taken))
+
+must-release-requires : tie.Need-must-release-requires Inv-loop μ-loop
+must-release-requires c κs = search needs
 
 kind-of-requires : tie.Need-kind-of-requires Inv-loop μ-loop
 kind-of-requires c κs = search needs
-
-add-position : tie.Need-add-position Inv-loop μ-loop
-add-position c = omega (arith, (c .before .before .loop-test .taken))
 
 is-mark-requires : tie.Need-is-mark-requires Inv-loop μ-loop
 is-mark-requires c κs = search needs
 
 returns : tie.Need-returns Inv-loop μ-loop
-returns c = free-end (c .before .before .before .before .before .before .before .args .service) (c .before .before .before .before .before .before .before .args .message .now) (c .before .before .before .before .before .before .before .args .from) (c .before .before .before .before .before .loop .releases) (c .before .before .before .before .before .loop .position) (c .before .before .before .before .loop-test .taken) _ (c .before .before .kind-of .ensures) (c .before .before .before .before .before .loop .inv) (sym (c .before .is-mark .ensures) ∙ (c .if1 .taken))
+returns c = free-end (c .before .before .before .before .before .before .before .before .before .args .service) (c .before .before .before .before .before .before .before .before .before .args .message .now) (c .before .before .before .before .before .before .before .before .before .args .from) (c .before .before .before .before .before .before .before .loop .releases) (c .before .before .before .before .before .before .before .loop .position) (c .before .before .before .before .before .before .loop-test .taken) _ (c .before .before .kind-of .ensures) (c .before .before .before .before .before .before .before .loop .inv) (sym (c .before .is-mark .ensures) ∙ (c .if2 .taken))
 
 is-release-requires : tie.Need-is-release-requires Inv-loop μ-loop
 is-release-requires c κs = search needs
 
 add-releases : tie.Need-add-releases Inv-loop μ-loop
-add-releases c = let n = free-few (c .before .before .before .before .before .before .before .before .before .args .service) (c .before .before .before .before .before .before .before .before .before .args .message .now) (c .before .before .before .before .before .before .before .before .before .args .from) (c .before .before .before .before .before .before .before .loop .releases) (c .before .before .before .before .before .before .before .loop .position) (c .before .before .before .before .before .before .loop-test .taken) _ (c .before .before .before .before .kind-of .ensures) (c .before .before .before .before .before .before .before .loop .inv) in omega (arith, (c .before .before .before .before .before .before .loop-test .taken))
+add-releases c = let n = free-few (c .before .before .before .before .before .before .before .before .before .before .before .args .service) (c .before .before .before .before .before .before .before .before .before .before .before .args .message .now) (c .before .before .before .before .before .before .before .before .before .before .before .args .from) (c .before .before .before .before .before .before .before .before .before .loop .releases) (c .before .before .before .before .before .before .before .before .before .loop .position) (c .before .before .before .before .before .before .before .before .loop-test .taken) _ (c .before .before .before .before .kind-of .ensures) (c .before .before .before .before .before .before .before .before .before .loop .inv) in omega (arith, (c .before .before .before .before .before .before .before .before .loop-test .taken))
 
 add-position-2 : tie.Need-add-position-2 Inv-loop μ-loop
-add-position-2 c = omega (arith, (c .if3 .taken))
+add-position-2 c = omega (arith, (c .if4 .taken))
 
 loop-less : tie.Need-loop-less Inv-loop μ-loop
-loop-less c = omega (arith, (c .before .before .before .before .before .before .before .loop-test .taken), (c .if3 .taken))
+loop-less c = omega (arith, (c .before .before .before .before .before .before .before .before .before .loop-test .taken), (c .if4 .taken))
 
 loop-again : tie.Need-loop-again Inv-loop μ-loop
-loop-again c = free-release (c .before .before .before .before .before .before .before .before .before .before .args .service) (c .before .before .before .before .before .before .before .before .before .before .args .message .now) (c .before .before .before .before .before .before .before .before .before .before .args .from) (c .before .before .before .before .before .before .before .before .loop .releases) (c .before .before .before .before .before .before .before .before .loop .position) (c .before .before .before .before .before .before .before .loop-test .taken) _ (c .before .before .before .before .before .kind-of .ensures) (c .before .before .before .before .before .before .before .before .loop .inv) (sym (c .before .before .is-release .ensures) ∙ (c .before .if2 .taken)) (c .if3 .taken)
+loop-again c = free-release (c .before .before .before .before .before .before .before .before .before .before .before .before .args .service) (c .before .before .before .before .before .before .before .before .before .before .before .before .args .message .now) (c .before .before .before .before .before .before .before .before .before .before .before .before .args .from) (c .before .before .before .before .before .before .before .before .before .before .loop .releases) (c .before .before .before .before .before .before .before .before .before .before .loop .position) (c .before .before .before .before .before .before .before .before .before .loop-test .taken) _ (c .before .before .before .before .before .kind-of .ensures) (c .before .before .before .before .before .before .before .before .before .before .loop .inv) (sym (c .before .before .is-release .ensures) ∙ (c .before .if3 .taken)) (c .if4 .taken)
 
 loop-less-2 : tie.Need-loop-less-2 Inv-loop μ-loop
-loop-less-2 c = omega (arith, (c .before .before .before .before .before .before .before .loop-test .taken))
+loop-less-2 c = omega (arith, (c .before .before .before .before .before .before .before .before .before .loop-test .taken))
 
 loop-again-2 : tie.Need-loop-again-2 Inv-loop μ-loop
-loop-again-2 c = free-out (c .before .before .before .before .before .before .before .before .before .before .args .service) (c .before .before .before .before .before .before .before .before .before .before .args .message .now) (c .before .before .before .before .before .before .before .before .before .before .args .from) (c .before .before .before .before .before .before .before .before .loop .releases) (c .before .before .before .before .before .before .before .before .loop .position) (c .before .before .before .before .before .before .before .loop-test .taken) _ (c .before .before .before .before .before .kind-of .ensures) (c .before .before .before .before .before .before .before .before .loop .inv) (sym (c .before .before .is-release .ensures) ∙ (c .before .if2 .taken)) (c .if3 .left)
+loop-again-2 c = free-out (c .before .before .before .before .before .before .before .before .before .before .before .before .args .service) (c .before .before .before .before .before .before .before .before .before .before .before .before .args .message .now) (c .before .before .before .before .before .before .before .before .before .before .before .before .args .from) (c .before .before .before .before .before .before .before .before .before .before .loop .releases) (c .before .before .before .before .before .before .before .before .before .before .loop .position) (c .before .before .before .before .before .before .before .before .before .loop-test .taken) _ (c .before .before .before .before .before .kind-of .ensures) (c .before .before .before .before .before .before .before .before .before .before .loop .inv) (sym (c .before .before .is-release .ensures) ∙ (c .before .if3 .taken)) (c .if4 .left)
 
 loop-less-3 : tie.Need-loop-less-3 Inv-loop μ-loop
-loop-less-3 c = omega (arith, (c .before .before .before .before .before .before .loop-test .taken))
+loop-less-3 c = omega (arith, (c .before .before .before .before .before .before .before .before .loop-test .taken))
 
 loop-again-3 : tie.Need-loop-again-3 Inv-loop μ-loop
-loop-again-3 c = free-data (c .before .before .before .before .before .before .before .before .before .args .service) (c .before .before .before .before .before .before .before .before .before .args .message .now) (c .before .before .before .before .before .before .before .before .before .args .from) (c .before .before .before .before .before .before .before .loop .releases) (c .before .before .before .before .before .before .before .loop .position) (c .before .before .before .before .before .before .loop-test .taken) _ (c .before .before .before .before .kind-of .ensures) (c .before .before .before .before .before .before .before .loop .inv) (sym (c .before .before .before .is-mark .ensures) ∙ (c .before .before .if1 .left)) (sym (c .before .is-release .ensures) ∙ (c .if2 .left))
+loop-again-3 c = free-data (c .before .before .before .before .before .before .before .before .before .before .before .args .service) (c .before .before .before .before .before .before .before .before .before .before .before .args .message .now) (c .before .before .before .before .before .before .before .before .before .before .before .args .from) (c .before .before .before .before .before .before .before .before .before .loop .releases) (c .before .before .before .before .before .before .before .before .before .loop .position) (c .before .before .before .before .before .before .before .before .loop-test .taken) _ (c .before .before .before .before .kind-of .ensures) (c .before .before .before .before .before .before .before .before .before .loop .inv) (sym (c .before .before .before .is-mark .ensures) ∙ (c .before .before .if2 .left)) (sym (c .before .is-release .ensures) ∙ (c .if3 .left))
+
+loop-less-4 : tie.Need-loop-less-4 Inv-loop μ-loop
+loop-less-4 c = omega (arith, (c .before .before .before .loop-test .taken))
+
+loop-again-4 : tie.Need-loop-again-4 Inv-loop μ-loop
+loop-again-4 c = free-text (c .before .before .before .before .before .before .args .service) (c .before .before .before .before .before .before .args .message .now) (c .before .before .before .before .before .before .args .from) (c .before .before .before .before .loop .releases) (c .before .before .before .before .loop .position) (c .before .before .before .loop-test .taken) _ refl (c .before .before .before .before .loop .inv) (sym (c .before .must-release .ensures) ∙ (c .if1 .left))
 
 returns-2 : tie.Need-returns-2 Inv-loop μ-loop
 returns-2 c = free-done (c .before .before .before .args .service) (c .before .before .before .args .message .now) (c .before .before .before .args .from) (c .before .loop .releases) (c .before .loop .position) (c .loop-test .left) (c .before .loop .inv)
@@ -70,9 +79,10 @@ read-component-spec =
     Inv-loop
     μ-loop
     loop-holds
-    shared-slice-read-kind-of
-    kind-of-requires
+    shared-slice-read-byte
     add-position
+    must-release-requires
+    kind-of-requires
     is-mark-requires
     returns
     is-release-requires
@@ -84,4 +94,6 @@ read-component-spec =
     loop-again-2
     loop-less-3
     loop-again-3
+    loop-less-4
+    loop-again-4
     returns-2)

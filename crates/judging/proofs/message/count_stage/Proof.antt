@@ -1,8 +1,8 @@
 -- `message::count_stage` meets its contract.
-use native.Mathlib.Omega.{arith}
-use mathlib.Core.Path.{_∙_}
+use mathlib.Core.Path.{ap, _∙_}
 use mathlib.Core.Bool.{true, false}
 use borrow.Author.Tests.{not-true, not-false}
+use Rattle.judging.specs.Message.{frameStage}
 use Rattle.judging.proofs.Messages.{count-high, count-low}
 use borrow.Author.Needs.{needs}
 use Rattle.judging.proofs.message.count_stage.Statement.{statement}
@@ -12,28 +12,22 @@ answer-requires : tie.Need-answer-requires
 answer-requires c κs = search needs
 
 returns : tie.Need-returns
-returns c = ((c .answer .ensures)) ∙ count-high ((c .before .before .before .args .service)) ((c .before .before .before .args .message .now)) ((c .before .before .before .args .room)) ((c .before .before .before .args .segments)) ((c .before .if1 .taken))
+returns c = (c .answer .ensures) ∙ count-high (c .before .before .before .args .service) (c .before .before .before .args .message .now) (c .before .before .before .args .room) (c .before .before .before .args .segments) (c .before .if1 .taken)
 
 has-room-requires : tie.Need-has-room-requires
 has-room-requires c κs = search needs
-
-cast-answer : tie.Need-cast-answer
-cast-answer c = search needs
 
 answer-requires-2 : tie.Need-answer-requires-2
 answer-requires-2 c κs = search needs
 
 returns-2 : tie.Need-returns-2
-returns-2 c = ((c .answer2 .ensures)) ∙ count-low ((c .before .before .before .before .before .args .service)) ((c .before .before .before .before .before .args .message .now)) ((c .before .before .before .before .before .args .room)) ((c .before .before .before .before .before .args .segments)) _ false ((c .before .before .before .if1 .left)) ((c .before .before .has-room .ensures)) (not-true _ ((c .before .if2 .taken)))
-
-cast-frame-stage : tie.Need-cast-frame-stage
-cast-frame-stage c = search needs
+returns-2 c = (c .answer2 .ensures) ∙ count-low (c .before .before .before .before .before .args .service) (c .before .before .before .before .before .args .message .now) (c .before .before .before .before .before .args .room) (c .before .before .before .before .before .args .segments) _ false (c .before .before .before .if1 .left) (c .before .before .has-room .ensures) (not-true _ (c .before .if2 .taken))
 
 frame-stage-requires : tie.Need-frame-stage-requires
 frame-stage-requires c κs = search needs
 
 returns-3 : tie.Need-returns-3
-returns-3 c = ((c .frame-stage .ensures)) ∙ count-low ((c .before .before .before .before .before .args .service)) ((c .before .before .before .before .before .args .message .now)) ((c .before .before .before .before .before .args .room)) ((c .before .before .before .before .before .args .segments)) _ true ((c .before .before .before .if1 .left)) ((c .before .before .has-room .ensures)) (not-false _ ((c .before .if2 .left)))
+returns-3 c = (c .frame-stage .ensures) ∙ ap (frameStage (c .before .before .before .before .before .args .service) (c .before .before .before .before .before .args .message .now) (c .before .before .before .before .before .args .segments)) (c .before .before .before .before .before .pre) ∙ count-low (c .before .before .before .before .before .args .service) (c .before .before .before .before .before .args .message .now) (c .before .before .before .before .before .args .room) (c .before .before .before .before .before .args .segments) _ true (c .before .before .before .if1 .left) (c .before .before .has-room .ensures) (not-false _ (c .before .if2 .left))
 
 pub count-stage-spec : {M : Type 1} → statement M
 count-stage-spec =
@@ -42,9 +36,7 @@ count-stage-spec =
     answer-requires
     returns
     has-room-requires
-    cast-answer
     answer-requires-2
     returns-2
-    cast-frame-stage
     frame-stage-requires
     returns-3)

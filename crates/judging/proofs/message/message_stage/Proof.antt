@@ -2,6 +2,7 @@
 use native.Mathlib.Omega.{arith}
 use mathlib.Core.Path.{sym, ap, _∙_}
 use borrow.Author.Tests.{not-true, not-false}
+use Rattle.judging.proofs.Frames.{survey-bad, survey-good}
 use Rattle.judging.proofs.Messages.{bad-within, sized-within, message-unsized, message-scanned}
 use borrow.Author.Needs.{needs}
 use Rattle.judging.proofs.message.message_stage.Statement.{statement}
@@ -14,16 +15,16 @@ answer-requires : tie.Need-answer-requires
 answer-requires c κs = search needs
 
 returns : tie.Need-returns
-returns c = ((c .answer .ensures)) ∙ message-unsized ((c .before .before .before .before .args .service)) ((c .before .before .before .before .args .message .now)) ((c .before .before .before .before .args .room)) _ (not-true _ ((c .before .if1 .taken))) ((c .before .before .is-sized .ensures))
+returns c = (c .answer .ensures) ∙ message-unsized (c .before .before .before .before .args .service) (c .before .before .before .before .args .message .now) (c .before .before .before .before .args .room) _ (not-true _ (c .before .if1 .taken)) (c .before .before .is-sized .ensures)
 
-scan-requires : tie.Need-scan-requires
-scan-requires c κs = search needs
+make-survey-requires : tie.Need-make-survey-requires
+make-survey-requires c κs = sized-within (c .before .before .before .args .message .now) (sym (c .before .is-sized .ensures) ∙ not-false _ (c .if1 .left))
 
 enum-known-place : tie.Need-enum-known-place
 enum-known-place c = search needs
 
 cast-answer : tie.Need-cast-answer
-cast-answer c = let w = bad-within ((c .before .before .before .before .before .before .before .args .service)) ((c .before .before .before .before .before .before .before .args .message .now)) _ (sym ((c .before .before .before .scan .ensures)) ∙ ((c .before .place .given .1))) in let h = sized-within ((c .before .before .before .before .before .before .before .args .message .now)) (sym ((c .before .before .before .before .before .is-sized .ensures)) ∙ not-false _ ((c .before .before .before .before .if1 .left))) in omega arith
+cast-answer c = let w = bad-within (c .before .before .before .before .before .before .before .args .service) (c .before .before .before .before .before .before .before .args .message .now) _ (sym (survey-bad (c .before .before .before .before .before .before .before .args .service) (c .before .before .before .before .before .before .before .args .message .now) _ (sym (c .before .place .given .1) ∙ (c .before .before .before .make-survey .ensures)))) in let h = sized-within (c .before .before .before .before .before .before .before .args .message .now) (sym (c .before .before .before .before .before .is-sized .ensures) ∙ not-false _ (c .before .before .before .before .if1 .left)) in omega arith
 
 answer-requires-2 : tie.Need-answer-requires-2
 answer-requires-2 c κs = search needs
@@ -32,13 +33,13 @@ enum-known-segments : tie.Need-enum-known-segments
 enum-known-segments c = search needs
 
 count-stage-requires : tie.Need-count-stage-requires
-count-stage-requires c κs = search needs
+count-stage-requires c κs = survey-good (c .before .before .before .before .before .before .before .args .service) (c .before .before .before .before .before .before .before .args .message .now) _ _ (sym (c .before .segments .given .1) ∙ (c .before .before .before .make-survey .ensures)) .1
 
 returns-2 : tie.Need-returns-2
-returns-2 c = ((c .answer2 .ensures)) ∙ message-scanned ((c .before .before .before .before .before .before .before .before .args .service)) ((c .before .before .before .before .before .before .before .before .args .message .now)) ((c .before .before .before .before .before .before .before .before .args .room)) _ _ (not-false _ ((c .before .before .before .before .before .if1 .left))) ((c .before .before .before .before .before .before .is-sized .ensures)) (sym ((c .before .before .place .given .1)) ∙ ((c .before .before .before .before .scan .ensures)))
+returns-2 c = (c .answer2 .ensures) ∙ message-scanned (c .before .before .before .before .before .before .before .before .args .service) (c .before .before .before .before .before .before .before .before .args .message .now) (c .before .before .before .before .before .before .before .before .args .room) _ _ (not-false _ (c .before .before .before .before .before .if1 .left)) (c .before .before .before .before .before .before .is-sized .ensures) (survey-bad (c .before .before .before .before .before .before .before .before .args .service) (c .before .before .before .before .before .before .before .before .args .message .now) _ (sym (c .before .before .place .given .1) ∙ (c .before .before .before .before .make-survey .ensures)))
 
 returns-3 : tie.Need-returns-3
-returns-3 c = ((c .count-stage .ensures)) ∙ message-scanned ((c .before .before .before .before .before .before .before .before .args .service)) ((c .before .before .before .before .before .before .before .before .args .message .now)) ((c .before .before .before .before .before .before .before .before .args .room)) _ _ (not-false _ ((c .before .before .before .before .before .if1 .left))) ((c .before .before .before .before .before .before .is-sized .ensures)) (sym ((c .before .before .segments .given .1)) ∙ ((c .before .before .before .before .scan .ensures)))
+returns-3 c = (c .count-stage .ensures) ∙ message-scanned (c .before .before .before .before .before .before .before .before .args .service) (c .before .before .before .before .before .before .before .before .args .message .now) (c .before .before .before .before .before .before .before .before .args .room) _ _ (not-false _ (c .before .before .before .before .before .if1 .left)) (c .before .before .before .before .before .before .is-sized .ensures) (survey-good (c .before .before .before .before .before .before .before .before .args .service) (c .before .before .before .before .before .before .before .before .args .message .now) _ _ (sym (c .before .before .segments .given .1) ∙ (c .before .before .before .before .make-survey .ensures)) .0)
 
 pub message-stage-spec : {M : Type 1} → statement M
 message-stage-spec =
@@ -47,7 +48,7 @@ message-stage-spec =
     is-sized-requires
     answer-requires
     returns
-    scan-requires
+    make-survey-requires
     enum-known-place
     cast-answer
     answer-requires-2

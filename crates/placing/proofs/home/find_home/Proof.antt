@@ -1,81 +1,49 @@
--- `home::find_home` meets its contract. The invariant: the least line that fits is the least of those left, and a component that
--- was looked up lies where it is said to lie.
-use Prim.Native.Nat.{suc, _-_}
+-- `home::find_home` meets its contract: the lines before the first of its tag do not fit, and without a selector that one does.
 use native.Mathlib.Omega.{arith}
-use mathlib.Core.Path.{_≡_, sym, refl, _∙_}
+use mathlib.Core.Path.{_∙_}
 use borrow.Author.Needs.{needs}
 use Rattle.book.specs.Guide.{guideOf}
-use Rattle.placing.specs.Fitting.{least, fitsAt, homeAt}
-use Rattle.placing.specs.Kept.{Looked}
-use Rattle.placing.proofs.Finding.{least-none, least-here, least-on, from-first, fits-not, fits-selected}
+use Rattle.placing.proofs.Finding.{end-within, home-past, home-first, home-here}
 use Rattle.placing.proofs.home.find_home.Statement.{statement}
 use Rattle.placing.proofs.home.find_home.Tie as tie
 
-abbrev Inv-loop : tie.InvT-loop
-Inv-loop service message at book tags tag lines selected₀ line₀ selected line = (least (fitsAt service (guideOf book) message at) line (suc (guideOf book .lines) - line) ≡ homeAt service (guideOf book) message at) × Looked service message at selected
-
-abbrev μ-loop : tie.MeasureT-loop
-μ-loop service message at book tags tag lines selected₀ line₀ selected line = suc lines - line
-
-tag-at-requires : tie.Need-tag-at-requires Inv-loop μ-loop
+tag-at-requires : tie.Need-tag-at-requires
 tag-at-requires c κs = search needs
 
-lines-requires : tie.Need-lines-requires Inv-loop μ-loop
-lines-requires c κs = search needs
+first-of-tag-requires : tie.Need-first-of-tag-requires
+first-of-tag-requires c κs = omega (arith, (c .before .before .before .pre .1 .ends), end-within (guideOf (c .before .before .before .args .book .now)))
 
-empty-at-requires : tie.Need-empty-at-requires Inv-loop μ-loop
-empty-at-requires c κs = search needs
+cast-find-from : tie.Need-cast-find-from
+cast-find-from c = omega (arith, (c .before .before .before .before .before .pre .1 .ends), end-within (guideOf (c .before .before .before .before .before .args .book .now)))
 
-loop-holds : tie.Need-loop-holds Inv-loop μ-loop
-loop-holds c = (from-first (fitsAt (c .before .before .before .before .before .args .service) (guideOf (c .before .before .before .before .before .args .book .now)) (c .before .before .before .before .before .args .message .now) (c .before .before .before .before .before .args .at)) (guideOf (c .before .before .before .before .before .args .book .now) .lines), record { lies = λ n. absurd (n refl) })
+find-from-requires : tie.Need-find-from-requires
+find-from-requires c κs = ((c .before .before .before .before .before .pre .0), (c .before .before .before .before .before .pre .1), (c .before .before .tag-at .ensures))
 
-add-line : tie.Need-add-line Inv-loop μ-loop
-add-line c = omega (arith, (c .loop-test .taken), (c .before .before .before .lines .ensures .1))
+returns : tie.Need-returns
+returns c = (c .find-from .ensures) ∙ home-past (guideOf (c .before .before .before .before .before .before .args .book .now)) (c .before .before .before .before .before .before .args .service) (c .before .before .before .before .before .before .args .message .now) (c .before .before .before .before .before .before .args .at) _ (c .before .before .before .tag-at .ensures .0) (c .before .before .before .tag-at .ensures .1) (c .before .before .before .before .before .before .args .end) (c .before .before .before .before .before .before .args .tags .now) (c .before .before .before .before .before .before .pre .1) _ (c .before .before .first-of-tag .ensures) (c .before .if1 .taken)
 
-has-tag-requires : tie.Need-has-tag-requires Inv-loop μ-loop
-has-tag-requires c κs = (c .before .before .before .before .before .before .before .pre .1)
+selector-element-requires : tie.Need-selector-element-requires
+selector-element-requires c κs = search needs
 
-select-requires : tie.Need-select-requires Inv-loop μ-loop
-select-requires c κs = ((c .before .before .before .before .before .before .before .before .before .pre .0), (c .before .before .before .loop .inv .1))
+returns-2 : tie.Need-returns-2
+returns-2 c = home-here (guideOf (c .before .before .before .before .before .before .before .args .book .now)) (c .before .before .before .before .before .before .before .args .service) (c .before .before .before .before .before .before .before .args .message .now) (c .before .before .before .before .before .before .before .args .at) _ (c .before .before .before .before .tag-at .ensures .0) (c .before .before .before .before .tag-at .ensures .1) (c .before .before .before .before .before .before .before .args .end) (c .before .before .before .before .before .before .before .args .tags .now) (c .before .before .before .before .before .before .before .pre .1) _ (c .before .before .before .first-of-tag .ensures) (c .before .before .if1 .left) _ (c .before .selector-element .ensures .0) (c .if2 .taken)
 
-is-selected-requires : tie.Need-is-selected-requires Inv-loop μ-loop
-is-selected-requires c κs = ((c .before .before .before .before .before .before .before .before .before .before .pre .0), (c .select .ensures .0), (c .select .ensures .1))
+find-from-requires-2 : tie.Need-find-from-requires-2
+find-from-requires-2 c κs = ((c .before .before .before .before .before .before .before .pre .0), (c .before .before .before .before .before .before .before .pre .1), (c .before .before .before .before .tag-at .ensures))
 
-returns : tie.Need-returns Inv-loop μ-loop
-returns c = sym (least-here (fitsAt (c .before .before .before .before .before .before .before .before .before .before .before .before .args .service) (guideOf (c .before .before .before .before .before .before .before .before .before .before .before .before .args .book .now)) (c .before .before .before .before .before .before .before .before .before .before .before .before .args .message .now) (c .before .before .before .before .before .before .before .before .before .before .before .before .args .at)) (suc (guideOf (c .before .before .before .before .before .before .before .before .before .before .before .before .args .book .now) .lines)) (c .before .before .before .before .before .before .loop .line) (omega (arith, (c .before .before .before .before .before .loop-test .taken), (c .before .before .before .before .before .before .before .before .lines .ensures .0))) (fits-selected (guideOf (c .before .before .before .before .before .before .before .before .before .before .before .before .args .book .now)) (c .before .before .before .before .before .before .before .before .before .before .before .before .args .service) (c .before .before .before .before .before .before .before .before .before .before .before .before .args .message .now) (c .before .before .before .before .before .before .before .before .before .before .before .before .args .at) (c .before .before .before .before .before .before .loop .line) _ (c .before .before .before .before .before .before .before .before .before .tag-at .ensures .0) _ (c .before .before .before .before .has-tag .ensures) _ (c .before .before .before .if1 .taken) (c .before .is-selected .ensures) ∙ (c .if2 .taken))) ∙ (c .before .before .before .before .before .before .loop .inv .0)
-
-loop-less : tie.Need-loop-less Inv-loop μ-loop
-loop-less c = omega (arith, (c .before .before .before .before .before .loop-test .taken))
-
-loop-again : tie.Need-loop-again Inv-loop μ-loop
-loop-again c = (least-on (fitsAt (c .before .before .before .before .before .before .before .before .before .before .before .before .args .service) (guideOf (c .before .before .before .before .before .before .before .before .before .before .before .before .args .book .now)) (c .before .before .before .before .before .before .before .before .before .before .before .before .args .message .now) (c .before .before .before .before .before .before .before .before .before .before .before .before .args .at)) (suc (guideOf (c .before .before .before .before .before .before .before .before .before .before .before .before .args .book .now) .lines)) (c .before .before .before .before .before .before .loop .line) (omega (arith, (c .before .before .before .before .before .loop-test .taken), (c .before .before .before .before .before .before .before .before .lines .ensures .0))) (fits-selected (guideOf (c .before .before .before .before .before .before .before .before .before .before .before .before .args .book .now)) (c .before .before .before .before .before .before .before .before .before .before .before .before .args .service) (c .before .before .before .before .before .before .before .before .before .before .before .before .args .message .now) (c .before .before .before .before .before .before .before .before .before .before .before .before .args .at) (c .before .before .before .before .before .before .loop .line) _ (c .before .before .before .before .before .before .before .before .before .tag-at .ensures .0) _ (c .before .before .before .before .has-tag .ensures) _ (c .before .before .before .if1 .taken) (c .before .is-selected .ensures) ∙ (c .if2 .left)) ∙ (c .before .before .before .before .before .before .loop .inv .0), (c .before .before .select .ensures .0))
-
-loop-less-2 : tie.Need-loop-less-2 Inv-loop μ-loop
-loop-less-2 c = omega (arith, (c .before .before .loop-test .taken))
-
-loop-again-2 : tie.Need-loop-again-2 Inv-loop μ-loop
-loop-again-2 c = (least-on (fitsAt (c .before .before .before .before .before .before .before .before .before .args .service) (guideOf (c .before .before .before .before .before .before .before .before .before .args .book .now)) (c .before .before .before .before .before .before .before .before .before .args .message .now) (c .before .before .before .before .before .before .before .before .before .args .at)) (suc (guideOf (c .before .before .before .before .before .before .before .before .before .args .book .now) .lines)) (c .before .before .before .loop .line) (omega (arith, (c .before .before .loop-test .taken), (c .before .before .before .before .before .lines .ensures .0))) (fits-not (guideOf (c .before .before .before .before .before .before .before .before .before .args .book .now)) (c .before .before .before .before .before .before .before .before .before .args .service) (c .before .before .before .before .before .before .before .before .before .args .message .now) (c .before .before .before .before .before .before .before .before .before .args .at) (c .before .before .before .loop .line) _ (c .before .before .before .before .before .before .tag-at .ensures .0) _ (c .before .has-tag .ensures) (c .if1 .left)) ∙ (c .before .before .before .loop .inv .0), (c .before .before .before .loop .inv .1))
-
-returns-2 : tie.Need-returns-2 Inv-loop μ-loop
-returns-2 c = sym (least-none (fitsAt (c .before .before .before .before .before .before .before .args .service) (guideOf (c .before .before .before .before .before .before .before .args .book .now)) (c .before .before .before .before .before .before .before .args .message .now) (c .before .before .before .before .before .before .before .args .at)) (suc (guideOf (c .before .before .before .before .before .before .before .args .book .now) .lines)) (c .before .loop .line) (omega (arith, (c .loop-test .left), (c .before .before .before .lines .ensures .0)))) ∙ (c .before .loop .inv .0)
+returns-3 : tie.Need-returns-3
+returns-3 c = (c .find-from2 .ensures) ∙ home-first (guideOf (c .before .before .before .before .before .before .before .before .args .book .now)) (c .before .before .before .before .before .before .before .before .args .service) (c .before .before .before .before .before .before .before .before .args .message .now) (c .before .before .before .before .before .before .before .before .args .at) _ (c .before .before .before .before .before .tag-at .ensures .0) (c .before .before .before .before .before .tag-at .ensures .1) (c .before .before .before .before .before .before .before .before .args .end) (c .before .before .before .before .before .before .before .before .args .tags .now) (c .before .before .before .before .before .before .before .before .pre .1) _ (c .before .before .before .before .first-of-tag .ensures) (c .before .before .before .if1 .left)
 
 pub find-home-spec : {M : Type 1} → statement M
 find-home-spec =
     tie.close
     (tie.spec
-    Inv-loop
-    μ-loop
     tag-at-requires
-    lines-requires
-    empty-at-requires
-    loop-holds
-    add-line
-    has-tag-requires
-    select-requires
-    is-selected-requires
+    first-of-tag-requires
+    cast-find-from
+    find-from-requires
     returns
-    loop-less
-    loop-again
-    loop-less-2
-    loop-again-2
-    returns-2)
+    selector-element-requires
+    returns-2
+    find-from-requires-2
+    returns-3)

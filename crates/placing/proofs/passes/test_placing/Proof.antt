@@ -3,20 +3,26 @@
 use Prim.Native.Nat.{_-_}
 use native.Mathlib.Omega.{arith}
 use mathlib.Core.Path.{sym, _∙_}
+use lib.ListN.{length-set}
 use borrow.Author.Needs.{needs}
+use Rattle.book.specs.Guide.{guideOf}
 use Rattle.placing.specs.Plan.{planIn}
+use Rattle.placing.proofs.Finding.{home-line}
 use Rattle.placing.proofs.Passing.{found-within, Testing, test-begin, test-homeless, test-on, test-nothing, test-end}
 use Rattle.placing.proofs.passes.test_placing.Statement.{statement}
 use Rattle.placing.proofs.passes.test_placing.Tie as tie
 
 abbrev Inv-loop : tie.InvT-loop
-Inv-loop service message segments book tags cursor₀ walk₀ stop₀ place₀ cursor walk stop place = Testing service message book segments walk stop place (cursor .at)
+Inv-loop service message segments book tags end cursor₀ walk₀ stop₀ place₀ cursor walk stop place = Testing service message book segments walk stop place (cursor .at)
 
 abbrev μ-loop : tie.MeasureT-loop
-μ-loop service message segments book tags cursor₀ walk₀ stop₀ place₀ cursor walk stop place = segments - place
+μ-loop service message segments book tags end cursor₀ walk₀ stop₀ place₀ cursor walk stop place = segments - place
+
+tabled-end-requires : tie.Need-tabled-end-requires Inv-loop μ-loop
+tabled-end-requires c κs = search needs
 
 tags-of-requires : tie.Need-tags-of-requires Inv-loop μ-loop
-tags-of-requires c κs = search needs
+tags-of-requires c κs = (c .tabled-end .ensures)
 
 first-requires : tie.Need-first-requires Inv-loop μ-loop
 first-requires c κs = search needs
@@ -25,7 +31,7 @@ begin-requires : tie.Need-begin-requires Inv-loop μ-loop
 begin-requires c κs = search needs
 
 loop-holds : tie.Need-loop-holds Inv-loop μ-loop
-loop-holds c = test-begin (c .before .before .before .before .before .args .service) (c .before .before .before .before .before .args .message .now) (c .before .before .before .before .before .args .book .now) (c .before .before .before .before .before .args .segments) _ _ ((c .begin .ensures .1) (planIn (c .before .before .before .before .before .args .book .now))) (c .before .first .ensures)
+loop-holds c = test-begin (c .before .before .before .before .before .before .args .service) (c .before .before .before .before .before .before .args .message .now) (c .before .before .before .before .before .before .args .book .now) (c .before .before .before .before .before .before .args .segments) _ _ ((c .begin .ensures .1) (planIn (c .before .before .before .before .before .before .args .book .now))) (c .before .first .ensures)
 
 next-segment-requires : tie.Need-next-segment-requires Inv-loop μ-loop
 next-segment-requires c κs = search needs
@@ -34,16 +40,28 @@ enum-known-next : tie.Need-enum-known-next Inv-loop μ-loop
 enum-known-next c = search needs
 
 find-home-requires : tie.Need-find-home-requires Inv-loop μ-loop
-find-home-requires c κs = (found-within (c .before .before .before .before .before .before .before .before .before .before .before .before .args .service) (c .before .before .before .before .before .before .before .before .before .before .before .before .args .message .now) (c .before .before .before .before .before .before .loop .cursor .at) _ _ (sym (c .before .before .next .given .1) ∙ (c .before .before .before .before .next-segment .ensures)), (c .before .before .before .before .before .before .before .before .before .tags-of .ensures))
+find-home-requires c κs = (found-within (c .before .before .before .before .before .before .before .before .before .before .before .before .before .args .service) (c .before .before .before .before .before .before .before .before .before .before .before .before .before .args .message .now) (c .before .before .before .before .before .before .loop .cursor .at) _ _ (sym (c .before .before .next .given .1) ∙ (c .before .before .before .before .next-segment .ensures)), (c .before .before .before .before .before .before .before .before .before .tags-of .ensures))
 
 add-place : tie.Need-add-place Inv-loop μ-loop
 add-place c = omega (arith, (c .before .before .before .before .before .before .loop-test .taken))
 
 returns : tie.Need-returns Inv-loop μ-loop
-returns c = test-homeless (c .before .before .before .before .before .before .before .before .before .before .before .before .before .before .args .service) (c .before .before .before .before .before .before .before .before .before .before .before .before .before .before .args .message .now) (c .before .before .before .before .before .before .before .before .before .before .before .before .before .before .args .book .now) (c .before .before .before .before .before .before .before .before .before .before .before .before .before .before .args .segments) (c .before .before .before .before .before .before .before .before .loop .walk) (c .before .before .before .before .before .before .before .before .loop .stop) (c .before .before .before .before .before .before .before .before .loop .place) _ (c .before .before .before .before .before .before .before .before .loop .inv) _ _ _ (c .before .before .before .before .before .before .before .loop-test .taken) (sym (c .before .before .before .before .next .given .1) ∙ (c .before .before .before .before .before .before .next-segment .ensures)) (c .before .find-home .ensures) (c .if1 .taken)
+returns c = test-homeless (c .before .before .before .before .before .before .before .before .before .before .before .before .before .before .before .args .service) (c .before .before .before .before .before .before .before .before .before .before .before .before .before .before .before .args .message .now) (c .before .before .before .before .before .before .before .before .before .before .before .before .before .before .before .args .book .now) (c .before .before .before .before .before .before .before .before .before .before .before .before .before .before .before .args .segments) (c .before .before .before .before .before .before .before .before .loop .walk) (c .before .before .before .before .before .before .before .before .loop .stop) (c .before .before .before .before .before .before .before .before .loop .place) _ (c .before .before .before .before .before .before .before .before .loop .inv) _ _ _ (c .before .before .before .before .before .before .before .loop-test .taken) (sym (c .before .before .before .before .next .given .1) ∙ (c .before .before .before .before .before .before .next-segment .ensures)) (c .before .find-home .ensures) (c .if1 .taken)
 
 advance-requires : tie.Need-advance-requires Inv-loop μ-loop
-advance-requires c κs = (c .before .before .before .before .before .before .before .before .loop .inv .stands .ready)
+advance-requires c κs = ((c .before .before .before .before .before .before .before .before .loop .inv .stands .ready), home-line (guideOf (c .before .before .before .before .before .before .before .before .before .before .before .before .before .before .before .args .book .now)) (c .before .before .before .before .before .before .before .before .before .before .before .before .before .before .before .args .service) (c .before .before .before .before .before .before .before .before .before .before .before .before .before .before .before .args .message .now) _ _ (c .before .find-home .ensures) (c .if1 .left))
+
+mul-level : tie.Need-mul-level Inv-loop μ-loop
+mul-level c = search needs
+
+element-set-from-level : tie.Need-element-set-from-level Inv-loop μ-loop
+element-set-from-level c = omega (arith, (c .before .before .advance .ensures .0 .high), (c .before .before .before .before .before .before .before .before .before .before .before .loop .inv .stands .ready .eight))
+
+mul-deepest : tie.Need-mul-deepest Inv-loop μ-loop
+mul-deepest c = search needs
+
+element-set-from-deepest : tie.Need-element-set-from-deepest Inv-loop μ-loop
+element-set-from-deepest c = omega (arith, (c .before .before .advance .ensures .0 .deep), (c .before .before .before .before .before .before .before .before .before .before .before .loop .inv .stands .ready .eight), length-set (c .before .before .before .before .before .before .before .before .before .before .before .loop .walk .levels) (c .before .before .advance .result .depth) (c .before .before .advance .result .level))
 
 is-alive-requires : tie.Need-is-alive-requires Inv-loop μ-loop
 is-alive-requires c κs = search needs
@@ -52,10 +70,10 @@ first-stop-requires : tie.Need-first-stop-requires Inv-loop μ-loop
 first-stop-requires c κs = search needs
 
 loop-less : tie.Need-loop-less Inv-loop μ-loop
-loop-less c = omega (arith, (c .before .before .before .before .before .before .before .before .before .before .loop-test .taken))
+loop-less c = omega (arith, (c .before .before .before .before .before .before .before .before .before .before .before .before .loop-test .taken))
 
 loop-again : tie.Need-loop-again Inv-loop μ-loop
-loop-again c = test-on (c .before .before .before .before .before .before .before .before .before .before .before .before .before .before .before .before .before .args .service) (c .before .before .before .before .before .before .before .before .before .before .before .before .before .before .before .before .before .args .message .now) (c .before .before .before .before .before .before .before .before .before .before .before .before .before .before .before .before .before .args .book .now) (c .before .before .before .before .before .before .before .before .before .before .before .before .before .before .before .before .before .args .segments) (c .before .before .before .before .before .before .before .before .before .before .before .loop .walk) (c .before .before .before .before .before .before .before .before .before .before .before .loop .stop) (c .before .before .before .before .before .before .before .before .before .before .before .loop .place) _ (c .before .before .before .before .before .before .before .before .before .before .before .loop .inv) _ _ _ (c .before .before .before .before .before .before .before .before .before .before .loop-test .taken) (sym (c .before .before .before .before .before .before .before .next .given .1) ∙ (c .before .before .before .before .before .before .before .before .before .next-segment .ensures)) (c .before .before .before .before .find-home .ensures) _ _ _ (c .before .before .before .if1 .left) (c .before .before .advance .ensures .1) (c .before .is-alive .ensures) (c .first-stop .ensures)
+loop-again c = test-on (c .before .before .before .before .before .before .before .before .before .before .before .before .before .before .before .before .before .before .before .before .args .service) (c .before .before .before .before .before .before .before .before .before .before .before .before .before .before .before .before .before .before .before .before .args .message .now) (c .before .before .before .before .before .before .before .before .before .before .before .before .before .before .before .before .before .before .before .before .args .book .now) (c .before .before .before .before .before .before .before .before .before .before .before .before .before .before .before .before .before .before .before .before .args .segments) (c .before .before .before .before .before .before .before .before .before .before .before .before .before .loop .walk) (c .before .before .before .before .before .before .before .before .before .before .before .before .before .loop .stop) (c .before .before .before .before .before .before .before .before .before .before .before .before .before .loop .place) _ (c .before .before .before .before .before .before .before .before .before .before .before .before .before .loop .inv) _ _ _ (c .before .before .before .before .before .before .before .before .before .before .before .before .loop-test .taken) (sym (c .before .before .before .before .before .before .before .before .before .next .given .1) ∙ (c .before .before .before .before .before .before .before .before .before .before .before .next-segment .ensures)) (c .before .before .before .before .before .before .find-home .ensures) _ _ _ (c .before .before .before .before .before .if1 .left) (c .before .before .before .before .advance .ensures .1) (c .before .is-alive .ensures) (c .first-stop .ensures)
 
 enum-told : tie.Need-enum-told Inv-loop μ-loop
 enum-told c = search needs
@@ -64,13 +82,13 @@ outcome-of-requires : tie.Need-outcome-of-requires Inv-loop μ-loop
 outcome-of-requires c κs = search needs
 
 returns-2 : tie.Need-returns-2 Inv-loop μ-loop
-returns-2 c = (c .outcome-of .ensures) ∙ test-nothing (c .before .before .before .before .before .before .before .before .before .before .before .args .service) (c .before .before .before .before .before .before .before .before .before .before .before .args .message .now) (c .before .before .before .before .before .before .before .before .before .before .before .args .book .now) (c .before .before .before .before .before .before .before .before .before .before .before .args .segments) (c .before .before .before .before .before .loop .walk) (c .before .before .before .before .before .loop .stop) (c .before .before .before .before .before .loop .place) _ (c .before .before .before .before .before .loop .inv) (sym (c .before .enum-told .given .1) ∙ (c .before .before .before .next-segment .ensures))
+returns-2 c = (c .outcome-of .ensures) ∙ test-nothing (c .before .before .before .before .before .before .before .before .before .before .before .before .args .service) (c .before .before .before .before .before .before .before .before .before .before .before .before .args .message .now) (c .before .before .before .before .before .before .before .before .before .before .before .before .args .book .now) (c .before .before .before .before .before .before .before .before .before .before .before .before .args .segments) (c .before .before .before .before .before .loop .walk) (c .before .before .before .before .before .loop .stop) (c .before .before .before .before .before .loop .place) _ (c .before .before .before .before .before .loop .inv) (sym (c .before .enum-told .given .1) ∙ (c .before .before .before .next-segment .ensures))
 
 outcome-of-requires-2 : tie.Need-outcome-of-requires-2 Inv-loop μ-loop
 outcome-of-requires-2 c κs = search needs
 
 returns-3 : tie.Need-returns-3 Inv-loop μ-loop
-returns-3 c = (c .outcome-of2 .ensures) ∙ test-end (c .before .before .before .before .before .before .before .before .args .service) (c .before .before .before .before .before .before .before .before .args .message .now) (c .before .before .before .before .before .before .before .before .args .book .now) (c .before .before .before .before .before .before .before .before .args .segments) (c .before .before .loop .walk) (c .before .before .loop .stop) (c .before .before .loop .place) _ (c .before .before .loop .inv) (c .before .loop-test .left)
+returns-3 c = (c .outcome-of2 .ensures) ∙ test-end (c .before .before .before .before .before .before .before .before .before .args .service) (c .before .before .before .before .before .before .before .before .before .args .message .now) (c .before .before .before .before .before .before .before .before .before .args .book .now) (c .before .before .before .before .before .before .before .before .before .args .segments) (c .before .before .loop .walk) (c .before .before .loop .stop) (c .before .before .loop .place) _ (c .before .before .loop .inv) (c .before .loop-test .left)
 
 pub test-placing-spec : {M : Type 1} → statement M
 test-placing-spec =
@@ -78,6 +96,7 @@ test-placing-spec =
     (tie.spec
     Inv-loop
     μ-loop
+    tabled-end-requires
     tags-of-requires
     first-requires
     begin-requires
@@ -88,6 +107,10 @@ test-placing-spec =
     add-place
     returns
     advance-requires
+    mul-level
+    element-set-from-level
+    mul-deepest
+    element-set-from-deepest
     is-alive-requires
     first-stop-requires
     loop-less

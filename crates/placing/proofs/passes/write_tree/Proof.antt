@@ -8,13 +8,16 @@ use Rattle.placing.proofs.passes.write_tree.Statement.{statement}
 use Rattle.placing.proofs.passes.write_tree.Tie as tie
 
 abbrev Inv-loop : tie.InvT-loop
-Inv-loop service message segments book starts₀ homes₀ parents₀ tags cursor₀ trail₀ place₀ last₀ starts homes parents cursor trail place last = Writing service message book segments starts₀ homes₀ parents₀ starts homes parents (cursor .at) (trail .triggers) place last
+Inv-loop service message segments book starts₀ homes₀ parents₀ tags end cursor₀ trail₀ place₀ last₀ starts homes parents cursor trail place last = Writing service message book segments starts₀ homes₀ parents₀ starts homes parents (cursor .at) (trail .triggers) place last
 
 abbrev μ-loop : tie.MeasureT-loop
-μ-loop service message segments book starts₀ homes₀ parents₀ tags cursor₀ trail₀ place₀ last₀ starts homes parents cursor trail place last = last - place
+μ-loop service message segments book starts₀ homes₀ parents₀ tags end cursor₀ trail₀ place₀ last₀ starts homes parents cursor trail place last = last - place
+
+tabled-end-requires : tie.Need-tabled-end-requires Inv-loop μ-loop
+tabled-end-requires c κs = search needs
 
 tags-of-requires : tie.Need-tags-of-requires Inv-loop μ-loop
-tags-of-requires c κs = search needs
+tags-of-requires c κs = (c .tabled-end .ensures)
 
 first-requires : tie.Need-first-requires Inv-loop μ-loop
 first-requires c κs = search needs
@@ -23,7 +26,7 @@ begin-requires : tie.Need-begin-requires Inv-loop μ-loop
 begin-requires c κs = search needs
 
 loop-holds : tie.Need-loop-holds Inv-loop μ-loop
-loop-holds c = write-begin (c .before .before .before .before .before .before .before .before .args .service) (c .before .before .before .before .before .before .before .before .args .message .now) (c .before .before .before .before .before .before .before .before .args .book .now) (c .before .before .before .before .before .before .before .before .args .segments) _ _ _ _ _ (c .before .first .ensures) (c .begin .ensures)
+loop-holds c = write-begin (c .before .before .before .before .before .before .before .before .before .args .service) (c .before .before .before .before .before .before .before .before .before .args .message .now) (c .before .before .before .before .before .before .before .before .before .args .book .now) (c .before .before .before .before .before .before .before .before .before .args .segments) _ _ _ _ _ (c .before .first .ensures) (c .begin .ensures)
 
 next-segment-requires : tie.Need-next-segment-requires Inv-loop μ-loop
 next-segment-requires c κs = search needs
@@ -32,7 +35,7 @@ enum-known-next : tie.Need-enum-known-next Inv-loop μ-loop
 enum-known-next c = search needs
 
 find-home-requires : tie.Need-find-home-requires Inv-loop μ-loop
-find-home-requires c κs = (found-within (c .before .before .before .before .before .before .before .before .before .before .before .before .before .before .before .args .service) (c .before .before .before .before .before .before .before .before .before .before .before .before .before .before .before .args .message .now) (c .before .before .before .before .before .before .loop .cursor .at) _ _ (sym (c .before .before .next .given .1) ∙ (c .before .before .before .before .next-segment .ensures)), (c .before .before .before .before .before .before .before .before .before .tags-of .ensures))
+find-home-requires c κs = (found-within (c .before .before .before .before .before .before .before .before .before .before .before .before .before .before .before .before .args .service) (c .before .before .before .before .before .before .before .before .before .before .before .before .before .before .before .before .args .message .now) (c .before .before .before .before .before .before .loop .cursor .at) _ _ (sym (c .before .before .next .given .1) ∙ (c .before .before .before .before .next-segment .ensures)), (c .before .before .before .before .before .before .before .before .before .tags-of .ensures))
 
 entry-of-requires : tie.Need-entry-of-requires Inv-loop μ-loop
 entry-of-requires c κs = search needs
@@ -50,7 +53,7 @@ put-requires-3 : tie.Need-put-requires-3 Inv-loop μ-loop
 put-requires-3 c κs = search needs
 
 add-place : tie.Need-add-place Inv-loop μ-loop
-add-place c = omega (arith, (c .before .before .before .before .before .before .before .before .before .before .before .before .before .before .before .before .before .before .before .before .loop-test .taken), (c .before .before .before .before .before .before .before .before .before .before .before .before .before .before .before .before .before .before .before .before .before .loop .inv .within), (c .before .before .before .before .before .before .before .before .before .before .before .before .before .before .before .before .before .before .before .before .before .before .before .before .before .before .before .before .before .before .fits .segments))
+add-place c = omega (arith, (c .before .before .before .before .before .before .before .before .before .before .before .before .before .before .before .before .before .before .before .before .loop-test .taken), (c .before .before .before .before .before .before .before .before .before .before .before .before .before .before .before .before .before .before .before .before .before .loop .inv .within), (c .before .before .before .before .before .before .before .before .before .before .before .before .before .before .before .before .before .before .before .before .before .before .before .before .before .before .before .before .before .before .before .fits .segments))
 
 open-instance-requires : tie.Need-open-instance-requires Inv-loop μ-loop
 open-instance-requires c κs = (c .before .before .before .before .before .before .before .before .before .before .before .before .before .before .before .before .before .before .before .before .before .loop .inv .eight)
@@ -59,7 +62,7 @@ loop-less : tie.Need-loop-less Inv-loop μ-loop
 loop-less c = omega (arith, (c .before .before .before .before .before .before .before .before .before .before .before .before .before .before .before .before .before .before .before .before .before .loop-test .taken))
 
 loop-again : tie.Need-loop-again Inv-loop μ-loop
-loop-again c = write-on (c .before .before .before .before .before .before .before .before .before .before .before .before .before .before .before .before .before .before .before .before .before .before .before .before .before .before .before .before .before .before .before .args .service) (c .before .before .before .before .before .before .before .before .before .before .before .before .before .before .before .before .before .before .before .before .before .before .before .before .before .before .before .before .before .before .before .args .message .now) (c .before .before .before .before .before .before .before .before .before .before .before .before .before .before .before .before .before .before .before .before .before .before .before .before .before .before .before .before .before .before .before .args .book .now) (c .before .before .before .before .before .before .before .before .before .before .before .before .before .before .before .before .before .before .before .before .before .before .before .before .before .before .before .before .before .before .before .args .segments) _ _ _ _ _ _ _ _ (c .before .before .before .before .before .before .before .before .before .before .before .before .before .before .before .before .before .before .before .before .before .before .loop .place) (c .before .before .before .before .before .before .before .before .before .before .before .before .before .before .before .before .before .before .before .before .before .before .loop .last) (c .before .before .before .before .before .before .before .before .before .before .before .before .before .before .before .before .before .before .before .before .before .before .loop .inv) _ _ _ _ _ _ _ _ _ (c .before .before .before .before .before .before .before .before .before .before .before .before .before .before .before .before .before .before .before .before .before .loop-test .taken) (sym (c .before .before .before .before .before .before .before .before .before .before .before .before .before .before .before .before .before .before .next .given .1) ∙ (c .before .before .before .before .before .before .before .before .before .before .before .before .before .before .before .before .before .before .before .before .next-segment .ensures)) (c .before .before .before .before .before .before .before .before .before .before .before .before .before .entry-of .ensures) (c .before .before .before .before .before .before .before .before .before .before .before .before .before .before .before .find-home .ensures) (c .before .before .before .before .parent-of .ensures) (c .before .before .before .before .before .before .before .before .before .before .before .before .put .ensures) (c .before .before .before .before .before .before .before .before .put2 .ensures) (c .before .before .before .put3 .ensures) (c .open-instance .ensures .0) (c .open-instance .ensures .1)
+loop-again c = write-on (c .before .before .before .before .before .before .before .before .before .before .before .before .before .before .before .before .before .before .before .before .before .before .before .before .before .before .before .before .before .before .before .before .args .service) (c .before .before .before .before .before .before .before .before .before .before .before .before .before .before .before .before .before .before .before .before .before .before .before .before .before .before .before .before .before .before .before .before .args .message .now) (c .before .before .before .before .before .before .before .before .before .before .before .before .before .before .before .before .before .before .before .before .before .before .before .before .before .before .before .before .before .before .before .before .args .book .now) (c .before .before .before .before .before .before .before .before .before .before .before .before .before .before .before .before .before .before .before .before .before .before .before .before .before .before .before .before .before .before .before .before .args .segments) _ _ _ _ _ _ _ _ (c .before .before .before .before .before .before .before .before .before .before .before .before .before .before .before .before .before .before .before .before .before .before .loop .place) (c .before .before .before .before .before .before .before .before .before .before .before .before .before .before .before .before .before .before .before .before .before .before .loop .last) (c .before .before .before .before .before .before .before .before .before .before .before .before .before .before .before .before .before .before .before .before .before .before .loop .inv) _ _ _ _ _ _ _ _ _ (c .before .before .before .before .before .before .before .before .before .before .before .before .before .before .before .before .before .before .before .before .before .loop-test .taken) (sym (c .before .before .before .before .before .before .before .before .before .before .before .before .before .before .before .before .before .before .next .given .1) ∙ (c .before .before .before .before .before .before .before .before .before .before .before .before .before .before .before .before .before .before .before .before .next-segment .ensures)) (c .before .before .before .before .before .before .before .before .before .before .before .before .before .entry-of .ensures) (c .before .before .before .before .before .before .before .before .before .before .before .before .before .before .before .find-home .ensures) (c .before .before .before .before .parent-of .ensures) (c .before .before .before .before .before .before .before .before .before .before .before .before .put .ensures) (c .before .before .before .before .before .before .before .before .put2 .ensures) (c .before .before .before .put3 .ensures) (c .open-instance .ensures .0) (c .open-instance .ensures .1)
 
 enum-told : tie.Need-enum-told Inv-loop μ-loop
 enum-told c = search needs
@@ -68,19 +71,19 @@ loop-less-2 : tie.Need-loop-less-2 Inv-loop μ-loop
 loop-less-2 c = omega (arith, (c .before .before .before .loop-test .taken))
 
 loop-again-2 : tie.Need-loop-again-2 Inv-loop μ-loop
-loop-again-2 c = write-last (c .before .before .before .before .before .before .before .before .before .before .before .before .before .args .service) (c .before .before .before .before .before .before .before .before .before .before .before .before .before .args .message .now) (c .before .before .before .before .before .before .before .before .before .before .before .before .before .args .book .now) (c .before .before .before .before .before .before .before .before .before .before .before .before .before .args .segments) _ _ _ _ _ _ _ _ (c .before .before .before .before .loop .place) (c .before .before .before .before .loop .last) (c .before .before .before .before .loop .inv) (sym (c .enum-told .given .1) ∙ (c .before .before .next-segment .ensures)) (c .before .before .before .loop-test .taken)
+loop-again-2 c = write-last (c .before .before .before .before .before .before .before .before .before .before .before .before .before .before .args .service) (c .before .before .before .before .before .before .before .before .before .before .before .before .before .before .args .message .now) (c .before .before .before .before .before .before .before .before .before .before .before .before .before .before .args .book .now) (c .before .before .before .before .before .before .before .before .before .before .before .before .before .before .args .segments) _ _ _ _ _ _ _ _ (c .before .before .before .before .loop .place) (c .before .before .before .before .loop .last) (c .before .before .before .before .loop .inv) (sym (c .enum-told .given .1) ∙ (c .before .before .next-segment .ensures)) (c .before .before .before .loop-test .taken)
 
 same-length : tie.Need-same-length Inv-loop μ-loop
-same-length c = starts-long (c .before .before .before .before .before .before .before .before .before .before .args .service) (c .before .before .before .before .before .before .before .before .before .before .args .message .now) (c .before .before .before .before .before .before .before .before .before .before .args .book .now) (c .before .before .before .before .before .before .before .before .before .before .args .segments) _ _ _ _ _ _ _ _ (c .before .loop .place) (c .before .loop .last) (c .before .loop .inv)
+same-length c = starts-long (c .before .before .before .before .before .before .before .before .before .before .before .args .service) (c .before .before .before .before .before .before .before .before .before .before .before .args .message .now) (c .before .before .before .before .before .before .before .before .before .before .before .args .book .now) (c .before .before .before .before .before .before .before .before .before .before .before .args .segments) _ _ _ _ _ _ _ _ (c .before .loop .place) (c .before .loop .last) (c .before .loop .inv)
 
 same-length-2 : tie.Need-same-length-2 Inv-loop μ-loop
-same-length-2 c = homes-long (c .before .before .before .before .before .before .before .before .before .before .args .service) (c .before .before .before .before .before .before .before .before .before .before .args .message .now) (c .before .before .before .before .before .before .before .before .before .before .args .book .now) (c .before .before .before .before .before .before .before .before .before .before .args .segments) _ _ _ _ _ _ _ _ (c .before .loop .place) (c .before .loop .last) (c .before .loop .inv)
+same-length-2 c = homes-long (c .before .before .before .before .before .before .before .before .before .before .before .args .service) (c .before .before .before .before .before .before .before .before .before .before .before .args .message .now) (c .before .before .before .before .before .before .before .before .before .before .before .args .book .now) (c .before .before .before .before .before .before .before .before .before .before .before .args .segments) _ _ _ _ _ _ _ _ (c .before .loop .place) (c .before .loop .last) (c .before .loop .inv)
 
 same-length-3 : tie.Need-same-length-3 Inv-loop μ-loop
-same-length-3 c = parents-long (c .before .before .before .before .before .before .before .before .before .before .args .service) (c .before .before .before .before .before .before .before .before .before .before .args .message .now) (c .before .before .before .before .before .before .before .before .before .before .args .book .now) (c .before .before .before .before .before .before .before .before .before .before .args .segments) _ _ _ _ _ _ _ _ (c .before .loop .place) (c .before .loop .last) (c .before .loop .inv)
+same-length-3 c = parents-long (c .before .before .before .before .before .before .before .before .before .before .before .args .service) (c .before .before .before .before .before .before .before .before .before .before .before .args .message .now) (c .before .before .before .before .before .before .before .before .before .before .before .args .book .now) (c .before .before .before .before .before .before .before .before .before .before .before .args .segments) _ _ _ _ _ _ _ _ (c .before .loop .place) (c .before .loop .last) (c .before .loop .inv)
 
 returns : tie.Need-returns Inv-loop μ-loop
-returns c = write-end (c .before .before .before .before .before .before .before .before .before .before .args .service) (c .before .before .before .before .before .before .before .before .before .before .args .message .now) (c .before .before .before .before .before .before .before .before .before .before .args .book .now) (c .before .before .before .before .before .before .before .before .before .before .args .segments) _ _ _ _ _ _ _ _ (c .before .loop .place) (c .before .loop .last) (c .before .loop .inv) (c .loop-test .left)
+returns c = write-end (c .before .before .before .before .before .before .before .before .before .before .before .args .service) (c .before .before .before .before .before .before .before .before .before .before .before .args .message .now) (c .before .before .before .before .before .before .before .before .before .before .before .args .book .now) (c .before .before .before .before .before .before .before .before .before .before .before .args .segments) _ _ _ _ _ _ _ _ (c .before .loop .place) (c .before .loop .last) (c .before .loop .inv) (c .loop-test .left)
 
 pub write-tree-spec : {M : Type 1} → statement M
 write-tree-spec =
@@ -88,6 +91,7 @@ write-tree-spec =
     (tie.spec
     Inv-loop
     μ-loop
+    tabled-end-requires
     tags-of-requires
     first-requires
     begin-requires

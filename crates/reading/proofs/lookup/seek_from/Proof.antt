@@ -4,9 +4,9 @@ use Prim.Native.Nat.{_-_}
 use native.Mathlib.Omega.{arith}
 use mathlib.Core.Path.{refl, sym, _∙_}
 use lib.ListN.{length}
-use borrow.Author.Needs.{needs}
 use Rattle.reading.specs.Machine.{seek}
-use Rattle.reading.proofs.Seeking.{Seeking, seeking-begin, seek-released, seek-component, seek-element, seek-release, seek-plain, seek-other, seek-found, seek-absent, seeking-out}
+use Rattle.reading.proofs.Seeking.{Seeking, seeking-begin, seek-released, seek-component, seek-element, seek-release, seek-plain, seek-other, seek-text, seek-found, seek-absent, seeking-out}
+use borrow.Author.Needs.{needs}
 use Rattle.reading.proofs.lookup.seek_from.Statement.{statement}
 use Rattle.reading.proofs.lookup.seek_from.Tie as tie
 
@@ -19,20 +19,23 @@ abbrev μ-loop : tie.MeasureT-loop
 loop-holds : tie.Need-loop-holds Inv-loop μ-loop
 loop-holds c = seeking-begin (c .before .args .service) (c .before .args .message .now) (c .before .args .from) (c .before .args .element) (c .before .args .component)
 
-shared-slice-read-kind-of : tie.Need-shared-slice-read-kind-of Inv-loop μ-loop
-shared-slice-read-kind-of c = omega (arith, (c .before .loop-test .taken))
+shared-slice-read-byte : tie.Need-shared-slice-read-byte Inv-loop μ-loop
+shared-slice-read-byte c = omega (arith, (c .before .loop-test .taken))
+
+add-position : tie.Need-add-position Inv-loop μ-loop
+add-position c = omega (arith, (c .before .loop-test .taken))
+
+loop-less : tie.Need-loop-less Inv-loop μ-loop
+loop-less c = omega (arith, (c .before .before .loop-test .taken))
+
+loop-again : tie.Need-loop-again Inv-loop μ-loop
+loop-again c = seek-released (c .before .before .before .before .before .args .service) (c .before .before .before .before .before .args .message .now) (c .before .before .before .before .before .args .from) (c .before .before .before .before .before .args .element) (c .before .before .before .before .before .args .component) (c .before .before .before .loop .elements) (c .before .before .before .loop .components) (c .before .before .before .loop .start) (c .before .before .before .loop .position) _ (c .before .before .loop-test .taken) refl (c .before .before .before .loop .released) (c .if1 .taken) (c .before .before .before .loop .inv)
+
+must-release-requires : tie.Need-must-release-requires Inv-loop μ-loop
+must-release-requires c κs = search needs
 
 kind-of-requires : tie.Need-kind-of-requires Inv-loop μ-loop
 kind-of-requires c κs = search needs
-
-add-position : tie.Need-add-position Inv-loop μ-loop
-add-position c = omega (arith, (c .before .before .loop-test .taken))
-
-loop-less : tie.Need-loop-less Inv-loop μ-loop
-loop-less c = omega (arith, (c .before .before .before .loop-test .taken))
-
-loop-again : tie.Need-loop-again Inv-loop μ-loop
-loop-again c = seek-released (c .before .before .before .before .before .before .args .service) (c .before .before .before .before .before .before .args .message .now) (c .before .before .before .before .before .before .args .from) (c .before .before .before .before .before .before .args .element) (c .before .before .before .before .before .before .args .component) (c .before .before .before .before .loop .elements) (c .before .before .before .before .loop .components) (c .before .before .before .before .loop .start) (c .before .before .before .before .loop .position) _ (c .before .before .before .loop-test .taken) (c .before .kind-of .ensures) (c .before .before .before .before .loop .released) (c .if1 .taken) (c .before .before .before .before .loop .inv)
 
 enum-told : tie.Need-enum-told Inv-loop μ-loop
 enum-told c = search needs
@@ -41,16 +44,16 @@ is-here-requires : tie.Need-is-here-requires Inv-loop μ-loop
 is-here-requires c κs = search needs
 
 returns : tie.Need-returns Inv-loop μ-loop
-returns c = seek-found (c .before .before .before .before .before .before .before .before .before .before .args .service) (c .before .before .before .before .before .before .before .before .before .before .args .message .now) (c .before .before .before .before .before .before .before .before .before .before .args .from) (c .before .before .before .before .before .before .before .before .before .before .args .element) (c .before .before .before .before .before .before .before .before .before .before .args .component) (c .before .before .before .before .before .before .before .before .loop .elements) (c .before .before .before .before .before .before .before .before .loop .components) (c .before .before .before .before .before .before .before .before .loop .start) (c .before .before .before .before .before .before .before .before .loop .position) _ (c .before .before .before .before .before .before .before .loop-test .taken) (c .before .before .before .before .before .kind-of .ensures) (c .before .before .before .before .before .before .before .before .loop .released) (c .before .before .before .before .if1 .left) (c .before .before .before .before .before .before .before .before .loop .inv) _ (c .before .before .enum-told .given .1) refl (sym (c .before .is-here .ensures) ∙ (c .if2 .taken))
+returns c = seek-found (c .before .before .before .before .before .before .before .before .before .before .before .before .args .service) (c .before .before .before .before .before .before .before .before .before .before .before .before .args .message .now) (c .before .before .before .before .before .before .before .before .before .before .before .before .args .from) (c .before .before .before .before .before .before .before .before .before .before .before .before .args .element) (c .before .before .before .before .before .before .before .before .before .before .before .before .args .component) (c .before .before .before .before .before .before .before .before .before .before .loop .elements) (c .before .before .before .before .before .before .before .before .before .before .loop .components) (c .before .before .before .before .before .before .before .before .before .before .loop .start) (c .before .before .before .before .before .before .before .before .before .before .loop .position) _ (c .before .before .before .before .before .before .before .before .before .loop-test .taken) (c .before .before .before .before .kind-of .ensures) (c .before .before .before .before .before .before .before .before .before .before .loop .released) (c .before .before .before .before .before .before .before .if1 .left) (c .before .before .before .before .before .before .before .before .before .before .loop .inv) _ (c .before .before .enum-told .given .1) refl (sym (c .before .is-here .ensures) ∙ (c .if3 .taken))
 
 add-components : tie.Need-add-components Inv-loop μ-loop
-add-components c = omega (arith, (c .before .before .before .before .before .before .before .loop-test .taken), (c .before .before .before .before .before .before .before .before .loop .inv .kept .component-few))
+add-components c = omega (arith, (c .before .before .before .before .before .before .before .before .before .loop-test .taken), (c .before .before .before .before .before .before .before .before .before .before .loop .inv .kept .component-few))
 
 loop-less-2 : tie.Need-loop-less-2 Inv-loop μ-loop
-loop-less-2 c = omega (arith, (c .before .before .before .before .before .before .before .loop-test .taken))
+loop-less-2 c = omega (arith, (c .before .before .before .before .before .before .before .before .before .loop-test .taken))
 
 loop-again-2 : tie.Need-loop-again-2 Inv-loop μ-loop
-loop-again-2 c = seek-component (c .before .before .before .before .before .before .before .before .before .before .args .service) (c .before .before .before .before .before .before .before .before .before .before .args .message .now) (c .before .before .before .before .before .before .before .before .before .before .args .from) (c .before .before .before .before .before .before .before .before .before .before .args .element) (c .before .before .before .before .before .before .before .before .before .before .args .component) (c .before .before .before .before .before .before .before .before .loop .elements) (c .before .before .before .before .before .before .before .before .loop .components) (c .before .before .before .before .before .before .before .before .loop .start) (c .before .before .before .before .before .before .before .before .loop .position) _ (c .before .before .before .before .before .before .before .loop-test .taken) (c .before .before .before .before .before .kind-of .ensures) (c .before .before .before .before .before .before .before .before .loop .released) (c .before .before .before .before .if1 .left) (c .before .before .before .before .before .before .before .before .loop .inv) (c .before .before .enum-told .given .1) (sym (c .before .is-here .ensures) ∙ (c .if2 .left))
+loop-again-2 c = seek-component (c .before .before .before .before .before .before .before .before .before .before .before .before .args .service) (c .before .before .before .before .before .before .before .before .before .before .before .before .args .message .now) (c .before .before .before .before .before .before .before .before .before .before .before .before .args .from) (c .before .before .before .before .before .before .before .before .before .before .before .before .args .element) (c .before .before .before .before .before .before .before .before .before .before .before .before .args .component) (c .before .before .before .before .before .before .before .before .before .before .loop .elements) (c .before .before .before .before .before .before .before .before .before .before .loop .components) (c .before .before .before .before .before .before .before .before .before .before .loop .start) (c .before .before .before .before .before .before .before .before .before .before .loop .position) _ (c .before .before .before .before .before .before .before .before .before .loop-test .taken) (c .before .before .before .before .kind-of .ensures) (c .before .before .before .before .before .before .before .before .before .before .loop .released) (c .before .before .before .before .before .before .before .if1 .left) (c .before .before .before .before .before .before .before .before .before .before .loop .inv) (c .before .before .enum-told .given .1) (sym (c .before .is-here .ensures) ∙ (c .if3 .left))
 
 enum-told-2 : tie.Need-enum-told-2 Inv-loop μ-loop
 enum-told-2 c = search needs
@@ -59,16 +62,16 @@ is-here-requires-2 : tie.Need-is-here-requires-2 Inv-loop μ-loop
 is-here-requires-2 c κs = search needs
 
 returns-2 : tie.Need-returns-2 Inv-loop μ-loop
-returns-2 c = seek-found (c .before .before .before .before .before .before .before .before .before .before .args .service) (c .before .before .before .before .before .before .before .before .before .before .args .message .now) (c .before .before .before .before .before .before .before .before .before .before .args .from) (c .before .before .before .before .before .before .before .before .before .before .args .element) (c .before .before .before .before .before .before .before .before .before .before .args .component) (c .before .before .before .before .before .before .before .before .loop .elements) (c .before .before .before .before .before .before .before .before .loop .components) (c .before .before .before .before .before .before .before .before .loop .start) (c .before .before .before .before .before .before .before .before .loop .position) _ (c .before .before .before .before .before .before .before .loop-test .taken) (c .before .before .before .before .before .kind-of .ensures) (c .before .before .before .before .before .before .before .before .loop .released) (c .before .before .before .before .if1 .left) (c .before .before .before .before .before .before .before .before .loop .inv) _ (c .before .before .enum-told2 .given .1) refl (sym (c .before .is-here2 .ensures) ∙ (c .if3 .taken))
+returns-2 c = seek-found (c .before .before .before .before .before .before .before .before .before .before .before .before .args .service) (c .before .before .before .before .before .before .before .before .before .before .before .before .args .message .now) (c .before .before .before .before .before .before .before .before .before .before .before .before .args .from) (c .before .before .before .before .before .before .before .before .before .before .before .before .args .element) (c .before .before .before .before .before .before .before .before .before .before .before .before .args .component) (c .before .before .before .before .before .before .before .before .before .before .loop .elements) (c .before .before .before .before .before .before .before .before .before .before .loop .components) (c .before .before .before .before .before .before .before .before .before .before .loop .start) (c .before .before .before .before .before .before .before .before .before .before .loop .position) _ (c .before .before .before .before .before .before .before .before .before .loop-test .taken) (c .before .before .before .before .kind-of .ensures) (c .before .before .before .before .before .before .before .before .before .before .loop .released) (c .before .before .before .before .before .before .before .if1 .left) (c .before .before .before .before .before .before .before .before .before .before .loop .inv) _ (c .before .before .enum-told2 .given .1) refl (sym (c .before .is-here2 .ensures) ∙ (c .if4 .taken))
 
 add-elements : tie.Need-add-elements Inv-loop μ-loop
-add-elements c = omega (arith, (c .before .before .before .before .before .before .before .loop-test .taken), (c .before .before .before .before .before .before .before .before .loop .inv .kept .element-few))
+add-elements c = omega (arith, (c .before .before .before .before .before .before .before .before .before .loop-test .taken), (c .before .before .before .before .before .before .before .before .before .before .loop .inv .kept .element-few))
 
 loop-less-3 : tie.Need-loop-less-3 Inv-loop μ-loop
-loop-less-3 c = omega (arith, (c .before .before .before .before .before .before .before .loop-test .taken))
+loop-less-3 c = omega (arith, (c .before .before .before .before .before .before .before .before .before .loop-test .taken))
 
 loop-again-3 : tie.Need-loop-again-3 Inv-loop μ-loop
-loop-again-3 c = seek-element (c .before .before .before .before .before .before .before .before .before .before .args .service) (c .before .before .before .before .before .before .before .before .before .before .args .message .now) (c .before .before .before .before .before .before .before .before .before .before .args .from) (c .before .before .before .before .before .before .before .before .before .before .args .element) (c .before .before .before .before .before .before .before .before .before .before .args .component) (c .before .before .before .before .before .before .before .before .loop .elements) (c .before .before .before .before .before .before .before .before .loop .components) (c .before .before .before .before .before .before .before .before .loop .start) (c .before .before .before .before .before .before .before .before .loop .position) _ (c .before .before .before .before .before .before .before .loop-test .taken) (c .before .before .before .before .before .kind-of .ensures) (c .before .before .before .before .before .before .before .before .loop .released) (c .before .before .before .before .if1 .left) (c .before .before .before .before .before .before .before .before .loop .inv) (c .before .before .enum-told2 .given .1) (sym (c .before .is-here2 .ensures) ∙ (c .if3 .left))
+loop-again-3 c = seek-element (c .before .before .before .before .before .before .before .before .before .before .before .before .args .service) (c .before .before .before .before .before .before .before .before .before .before .before .before .args .message .now) (c .before .before .before .before .before .before .before .before .before .before .before .before .args .from) (c .before .before .before .before .before .before .before .before .before .before .before .before .args .element) (c .before .before .before .before .before .before .before .before .before .before .before .before .args .component) (c .before .before .before .before .before .before .before .before .before .before .loop .elements) (c .before .before .before .before .before .before .before .before .before .before .loop .components) (c .before .before .before .before .before .before .before .before .before .before .loop .start) (c .before .before .before .before .before .before .before .before .before .before .loop .position) _ (c .before .before .before .before .before .before .before .before .before .loop-test .taken) (c .before .before .before .before .kind-of .ensures) (c .before .before .before .before .before .before .before .before .before .before .loop .released) (c .before .before .before .before .before .before .before .if1 .left) (c .before .before .before .before .before .before .before .before .before .before .loop .inv) (c .before .before .enum-told2 .given .1) (sym (c .before .is-here2 .ensures) ∙ (c .if4 .left))
 
 enum-told-3 : tie.Need-enum-told-3 Inv-loop μ-loop
 enum-told-3 c = search needs
@@ -77,46 +80,52 @@ is-here-requires-3 : tie.Need-is-here-requires-3 Inv-loop μ-loop
 is-here-requires-3 c κs = search needs
 
 returns-3 : tie.Need-returns-3 Inv-loop μ-loop
-returns-3 c = seek-found (c .before .before .before .before .before .before .before .before .before .before .args .service) (c .before .before .before .before .before .before .before .before .before .before .args .message .now) (c .before .before .before .before .before .before .before .before .before .before .args .from) (c .before .before .before .before .before .before .before .before .before .before .args .element) (c .before .before .before .before .before .before .before .before .before .before .args .component) (c .before .before .before .before .before .before .before .before .loop .elements) (c .before .before .before .before .before .before .before .before .loop .components) (c .before .before .before .before .before .before .before .before .loop .start) (c .before .before .before .before .before .before .before .before .loop .position) _ (c .before .before .before .before .before .before .before .loop-test .taken) (c .before .before .before .before .before .kind-of .ensures) (c .before .before .before .before .before .before .before .before .loop .released) (c .before .before .before .before .if1 .left) (c .before .before .before .before .before .before .before .before .loop .inv) _ (c .before .before .enum-told3 .given .1) refl (sym (c .before .is-here3 .ensures) ∙ (c .if4 .taken))
+returns-3 c = seek-found (c .before .before .before .before .before .before .before .before .before .before .before .before .args .service) (c .before .before .before .before .before .before .before .before .before .before .before .before .args .message .now) (c .before .before .before .before .before .before .before .before .before .before .before .before .args .from) (c .before .before .before .before .before .before .before .before .before .before .before .before .args .element) (c .before .before .before .before .before .before .before .before .before .before .before .before .args .component) (c .before .before .before .before .before .before .before .before .before .before .loop .elements) (c .before .before .before .before .before .before .before .before .before .before .loop .components) (c .before .before .before .before .before .before .before .before .before .before .loop .start) (c .before .before .before .before .before .before .before .before .before .before .loop .position) _ (c .before .before .before .before .before .before .before .before .before .loop-test .taken) (c .before .before .before .before .kind-of .ensures) (c .before .before .before .before .before .before .before .before .before .before .loop .released) (c .before .before .before .before .before .before .before .if1 .left) (c .before .before .before .before .before .before .before .before .before .before .loop .inv) _ (c .before .before .enum-told3 .given .1) refl (sym (c .before .is-here3 .ensures) ∙ (c .if5 .taken))
 
 empty-at-requires : tie.Need-empty-at-requires Inv-loop μ-loop
 empty-at-requires c κs = search needs
 
 returns-4 : tie.Need-returns-4 Inv-loop μ-loop
-returns-4 c = seek-absent (c .before .before .before .before .before .before .before .before .before .before .before .args .service) (c .before .before .before .before .before .before .before .before .before .before .before .args .message .now) (c .before .before .before .before .before .before .before .before .before .before .before .args .from) (c .before .before .before .before .before .before .before .before .before .before .before .args .element) (c .before .before .before .before .before .before .before .before .before .before .before .args .component) (c .before .before .before .before .before .before .before .before .before .loop .elements) (c .before .before .before .before .before .before .before .before .before .loop .components) (c .before .before .before .before .before .before .before .before .before .loop .start) (c .before .before .before .before .before .before .before .before .before .loop .position) _ (c .before .before .before .before .before .before .before .before .loop-test .taken) (c .before .before .before .before .before .before .kind-of .ensures) (c .before .before .before .before .before .before .before .before .before .loop .released) (c .before .before .before .before .before .if1 .left) (c .before .before .before .before .before .before .before .before .before .loop .inv) _ (c .before .before .before .enum-told3 .given .1) (sym (c .before .before .is-here3 .ensures) ∙ (c .before .if4 .left)) (c .empty-at .ensures)
+returns-4 c = seek-absent (c .before .before .before .before .before .before .before .before .before .before .before .before .before .args .service) (c .before .before .before .before .before .before .before .before .before .before .before .before .before .args .message .now) (c .before .before .before .before .before .before .before .before .before .before .before .before .before .args .from) (c .before .before .before .before .before .before .before .before .before .before .before .before .before .args .element) (c .before .before .before .before .before .before .before .before .before .before .before .before .before .args .component) (c .before .before .before .before .before .before .before .before .before .before .before .loop .elements) (c .before .before .before .before .before .before .before .before .before .before .before .loop .components) (c .before .before .before .before .before .before .before .before .before .before .before .loop .start) (c .before .before .before .before .before .before .before .before .before .before .before .loop .position) _ (c .before .before .before .before .before .before .before .before .before .before .loop-test .taken) (c .before .before .before .before .before .kind-of .ensures) (c .before .before .before .before .before .before .before .before .before .before .before .loop .released) (c .before .before .before .before .before .before .before .before .if1 .left) (c .before .before .before .before .before .before .before .before .before .before .before .loop .inv) _ (c .before .before .before .enum-told3 .given .1) (sym (c .before .before .is-here3 .ensures) ∙ (c .before .if5 .left)) (c .empty-at .ensures)
 
 enum-told-4 : tie.Need-enum-told-4 Inv-loop μ-loop
 enum-told-4 c = search needs
 
 loop-less-4 : tie.Need-loop-less-4 Inv-loop μ-loop
-loop-less-4 c = omega (arith, (c .before .before .before .before .before .loop-test .taken))
+loop-less-4 c = omega (arith, (c .before .before .before .before .before .before .before .loop-test .taken))
 
 loop-again-4 : tie.Need-loop-again-4 Inv-loop μ-loop
-loop-again-4 c = seek-release (c .before .before .before .before .before .before .before .before .args .service) (c .before .before .before .before .before .before .before .before .args .message .now) (c .before .before .before .before .before .before .before .before .args .from) (c .before .before .before .before .before .before .before .before .args .element) (c .before .before .before .before .before .before .before .before .args .component) (c .before .before .before .before .before .before .loop .elements) (c .before .before .before .before .before .before .loop .components) (c .before .before .before .before .before .before .loop .start) (c .before .before .before .before .before .before .loop .position) _ (c .before .before .before .before .before .loop-test .taken) (c .before .before .before .kind-of .ensures) (c .before .before .before .before .before .before .loop .released) (c .before .before .if1 .left) (c .before .before .before .before .before .before .loop .inv) (c .enum-told4 .given .1)
+loop-again-4 c = seek-release (c .before .before .before .before .before .before .before .before .before .before .args .service) (c .before .before .before .before .before .before .before .before .before .before .args .message .now) (c .before .before .before .before .before .before .before .before .before .before .args .from) (c .before .before .before .before .before .before .before .before .before .before .args .element) (c .before .before .before .before .before .before .before .before .before .before .args .component) (c .before .before .before .before .before .before .before .before .loop .elements) (c .before .before .before .before .before .before .before .before .loop .components) (c .before .before .before .before .before .before .before .before .loop .start) (c .before .before .before .before .before .before .before .before .loop .position) _ (c .before .before .before .before .before .before .before .loop-test .taken) (c .before .before .kind-of .ensures) (c .before .before .before .before .before .before .before .before .loop .released) (c .before .before .before .before .before .if1 .left) (c .before .before .before .before .before .before .before .before .loop .inv) (c .enum-told4 .given .1)
 
 enum-told-5 : tie.Need-enum-told-5 Inv-loop μ-loop
 enum-told-5 c = search needs
 
 loop-less-5 : tie.Need-loop-less-5 Inv-loop μ-loop
-loop-less-5 c = omega (arith, (c .before .before .before .before .before .loop-test .taken))
+loop-less-5 c = omega (arith, (c .before .before .before .before .before .before .before .loop-test .taken))
 
 loop-again-5 : tie.Need-loop-again-5 Inv-loop μ-loop
-loop-again-5 c = seek-plain (c .before .before .before .before .before .before .before .before .args .service) (c .before .before .before .before .before .before .before .before .args .message .now) (c .before .before .before .before .before .before .before .before .args .from) (c .before .before .before .before .before .before .before .before .args .element) (c .before .before .before .before .before .before .before .before .args .component) (c .before .before .before .before .before .before .loop .elements) (c .before .before .before .before .before .before .loop .components) (c .before .before .before .before .before .before .loop .start) (c .before .before .before .before .before .before .loop .position) _ (c .before .before .before .before .before .loop-test .taken) (c .before .before .before .kind-of .ensures) (c .before .before .before .before .before .before .loop .released) (c .before .before .if1 .left) (c .before .before .before .before .before .before .loop .inv) (c .enum-told5 .given .1)
+loop-again-5 c = seek-plain (c .before .before .before .before .before .before .before .before .before .before .args .service) (c .before .before .before .before .before .before .before .before .before .before .args .message .now) (c .before .before .before .before .before .before .before .before .before .before .args .from) (c .before .before .before .before .before .before .before .before .before .before .args .element) (c .before .before .before .before .before .before .before .before .before .before .args .component) (c .before .before .before .before .before .before .before .before .loop .elements) (c .before .before .before .before .before .before .before .before .loop .components) (c .before .before .before .before .before .before .before .before .loop .start) (c .before .before .before .before .before .before .before .before .loop .position) _ (c .before .before .before .before .before .before .before .loop-test .taken) (c .before .before .kind-of .ensures) (c .before .before .before .before .before .before .before .before .loop .released) (c .before .before .before .before .before .if1 .left) (c .before .before .before .before .before .before .before .before .loop .inv) (c .enum-told5 .given .1)
 
 enum-told-6 : tie.Need-enum-told-6 Inv-loop μ-loop
 enum-told-6 c = search needs
 
 loop-less-6 : tie.Need-loop-less-6 Inv-loop μ-loop
-loop-less-6 c = omega (arith, (c .before .before .before .before .before .loop-test .taken))
+loop-less-6 c = omega (arith, (c .before .before .before .before .before .before .before .loop-test .taken))
 
 loop-again-6 : tie.Need-loop-again-6 Inv-loop μ-loop
-loop-again-6 c = seek-other (c .before .before .before .before .before .before .before .before .args .service) (c .before .before .before .before .before .before .before .before .args .message .now) (c .before .before .before .before .before .before .before .before .args .from) (c .before .before .before .before .before .before .before .before .args .element) (c .before .before .before .before .before .before .before .before .args .component) (c .before .before .before .before .before .before .loop .elements) (c .before .before .before .before .before .before .loop .components) (c .before .before .before .before .before .before .loop .start) (c .before .before .before .before .before .before .loop .position) _ (c .before .before .before .before .before .loop-test .taken) (c .before .before .before .kind-of .ensures) (c .before .before .before .before .before .before .loop .released) (c .before .before .if1 .left) (c .before .before .before .before .before .before .loop .inv) (c .enum-told6 .given .1)
+loop-again-6 c = seek-other (c .before .before .before .before .before .before .before .before .before .before .args .service) (c .before .before .before .before .before .before .before .before .before .before .args .message .now) (c .before .before .before .before .before .before .before .before .before .before .args .from) (c .before .before .before .before .before .before .before .before .before .before .args .element) (c .before .before .before .before .before .before .before .before .before .before .args .component) (c .before .before .before .before .before .before .before .before .loop .elements) (c .before .before .before .before .before .before .before .before .loop .components) (c .before .before .before .before .before .before .before .before .loop .start) (c .before .before .before .before .before .before .before .before .loop .position) _ (c .before .before .before .before .before .before .before .loop-test .taken) (c .before .before .kind-of .ensures) (c .before .before .before .before .before .before .before .before .loop .released) (c .before .before .before .before .before .if1 .left) (c .before .before .before .before .before .before .before .before .loop .inv) (c .enum-told6 .given .1)
+
+loop-less-7 : tie.Need-loop-less-7 Inv-loop μ-loop
+loop-less-7 c = omega (arith, (c .before .before .before .before .loop-test .taken))
+
+loop-again-7 : tie.Need-loop-again-7 Inv-loop μ-loop
+loop-again-7 c = seek-text (c .before .before .before .before .before .before .before .args .service) (c .before .before .before .before .before .before .before .args .message .now) (c .before .before .before .before .before .before .before .args .from) (c .before .before .before .before .before .before .before .args .element) (c .before .before .before .before .before .before .before .args .component) (c .before .before .before .before .before .loop .elements) (c .before .before .before .before .before .loop .components) (c .before .before .before .before .before .loop .start) (c .before .before .before .before .before .loop .position) _ (c .before .before .before .before .loop-test .taken) refl (c .before .before .before .before .before .loop .released) (c .before .before .if1 .left) (c .before .before .before .before .before .loop .inv) (sym (c .before .must-release .ensures) ∙ (c .if2 .left))
 
 empty-at-requires-2 : tie.Need-empty-at-requires-2 Inv-loop μ-loop
 empty-at-requires-2 c κs = search needs
 
 returns-5 : tie.Need-returns-5 Inv-loop μ-loop
-returns-5 c = (c .empty-at2 .ensures) ∙ seeking-out (c .before .before .before .before .args .service) (c .before .before .before .before .args .message .now) (c .before .before .before .before .args .from) (c .before .before .before .before .args .element) (c .before .before .before .before .args .component) (seek (c .before .before .loop .elements) (c .before .before .loop .components) (c .before .before .loop .start) (c .before .before .loop .released)) (c .before .before .loop .position) (c .before .loop-test .left) (c .before .before .loop .inv)
+returns-5 c = (c .empty-at2 .ensures) ∙ seeking-out (c .before .before .before .before .args .service) (c .before .before .before .before .args .message .now) (c .before .before .before .before .args .from) (c .before .before .before .before .args .element) (c .before .before .before .before .args .component) _ (c .before .before .loop .position) (c .before .loop-test .left) (c .before .before .loop .inv)
 
 pub seek-from-spec : {M : Type 1} → statement M
 seek-from-spec =
@@ -125,11 +134,12 @@ seek-from-spec =
     Inv-loop
     μ-loop
     loop-holds
-    shared-slice-read-kind-of
-    kind-of-requires
+    shared-slice-read-byte
     add-position
     loop-less
     loop-again
+    must-release-requires
+    kind-of-requires
     enum-told
     is-here-requires
     returns
@@ -156,5 +166,7 @@ seek-from-spec =
     enum-told-6
     loop-less-6
     loop-again-6
+    loop-less-7
+    loop-again-7
     empty-at-requires-2
     returns-5)

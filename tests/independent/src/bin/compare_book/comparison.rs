@@ -4,7 +4,8 @@
 use independent::archives;
 use independent::book::fault::Fault;
 use independent::book::{check, Book};
-use independent::hex::write_hex;
+use independent::difference::write_hex;
+use independent::times::Slowest;
 use std::fmt::Arguments;
 use std::process::exit;
 use std::sync::mpsc;
@@ -25,8 +26,7 @@ pub struct Comparison {
     good: u64,
     /// How often each fault was the independent check's answer.
     met: Vec<u64>,
-    slowest: Duration,
-    slowest_book: String,
+    slowest: Slowest,
 }
 
 impl Comparison {
@@ -34,8 +34,7 @@ impl Comparison {
         Comparison {
             good: 0,
             met: vec![0; Fault::EVERY.len()],
-            slowest: Duration::ZERO,
-            slowest_book: String::new(),
+            slowest: Slowest::default(),
         }
     }
 
@@ -52,7 +51,7 @@ impl Comparison {
         if answer.number != number {
             report(description, bytes, &expected, &answer.number.to_string());
         }
-        self.note_time(description, answer.time);
+        self.slowest.note(answer.time, || description.to_string());
         match &expected {
             Ok(_) => self.good += 1,
             Err(fault) => self.met[*fault as usize] += 1,
@@ -73,13 +72,6 @@ impl Comparison {
         assert_eq!(found, Some(fault), "{description}");
     }
 
-    fn note_time(&mut self, description: Arguments, time: Duration) {
-        if time > self.slowest {
-            self.slowest = time;
-            self.slowest_book = description.to_string();
-        }
-    }
-
     pub fn total(&self) -> u64 {
         self.good + self.met.iter().sum::<u64>()
     }
@@ -89,11 +81,7 @@ impl Comparison {
         for (fault, count) in Fault::EVERY.iter().zip(&self.met) {
             println!("{count:>9}  {}", fault.description());
         }
-        println!(
-            "compare_book: the archive's slowest answer took {:.3} s: {}",
-            self.slowest.as_secs_f64(),
-            self.slowest_book
-        );
+        self.slowest.print("compare_book");
     }
 
     /// A rule that no book broke.

@@ -3,13 +3,15 @@
 //! is printed and ends the program.
 
 use independent::archives;
-use independent::hex::write_hex;
+use independent::difference::print_input;
 use independent::judging::plain::judge_by_fillings;
 use independent::judging::{judge, Record, UNKNOWN};
+use independent::lent::{empty_table, entry_in_words, entry_number, lent, TABLE_NAMES};
 use independent::placing::segments::Segments;
 use independent::random::Random;
+use independent::times::Slowest;
 use std::process::exit;
-use std::time::{Duration, Instant};
+use std::time::Instant;
 
 const NUMBERS: usize = 16;
 /// What each number is given for.
@@ -31,16 +33,9 @@ const WORDS: [&str; NUMBERS] = [
     "row broken",
     "row open",
 ];
-/// Entries on either side of a lent table that must stay as they are.
-const MARGIN: usize = 2;
-/// No entry of any table.
-const CANARY: u32 = 0xA5A5_A5A5;
-const TABLE_NAMES: [&str; 3] = ["starts", "homes", "parents"];
 const MOST_RECORD_ENTRIES: usize = 8;
 /// Longer messages are not put to the plain judge.
 const LONGEST_FOR_PLAIN: usize = 20_000;
-/// Longer messages are printed only in part.
-const LONGEST_PRINTED: usize = 2_000;
 
 /// What is put to both.
 pub struct Case<'a> {
@@ -61,8 +56,7 @@ pub struct Comparison {
     unknown_open: u64,
     /// Where the lengths of lent tables come from.
     lengths: Random,
-    slowest: Duration,
-    slowest_call: String,
+    slowest: Slowest,
 }
 
 impl Comparison {
@@ -73,8 +67,7 @@ impl Comparison {
             unknown_decided: 0,
             unknown_open: 0,
             lengths: Random::from_seed(!seed),
-            slowest: Duration::ZERO,
-            slowest_call: String::new(),
+            slowest: Slowest::default(),
         }
     }
 
@@ -86,8 +79,8 @@ impl Comparison {
     }
 
     pub fn compare_over(&mut self, case: &Case, lengths: [usize; 3]) -> Record {
-        let mut expected = empty_tables(lengths);
-        let [starts, homes, parents] = lent(&mut expected);
+        let mut expected = lengths.map(empty_table);
+        let [starts, homes, parents] = lent_tables(&mut expected);
         let record = judge(
             case.message,
             case.book,
@@ -134,23 +127,24 @@ impl Comparison {
         record: Record,
         expected: &Tables,
     ) {
-        let mut answered = empty_tables(lengths);
+        let mut answered = lengths.map(empty_table);
         let record_length = self.lengths.between(0, MOST_RECORD_ENTRIES);
-        let mut entries = vec![CANARY; MARGIN + record_length + MARGIN];
+        let mut entries = empty_table(record_length);
         let begin = Instant::now();
         let number = archives::judge(
             case.message,
             case.book,
             case.conditions,
-            lent(&mut answered),
-            &mut entries[MARGIN..MARGIN + record_length],
+            lent_tables(&mut answered),
+            lent(&mut entries),
         );
-        self.note_time(case, begin.elapsed());
-        let mut expected_entries = vec![CANARY; MARGIN + record_length + MARGIN];
-        for (entry, said) in expected_entries[MARGIN..MARGIN + record_length]
-            .iter_mut()
-            .zip(record.entries())
-        {
+        self.slowest.note(begin.elapsed(), || {
+            let (bytes, name) = (case.message.len(), case.name);
+            format!("a message of {bytes} bytes over {name}")
+        });
+        let mut expected_entries = empty_table(record_length);
+        let said = lent(&mut expected_entries).iter_mut();
+        for (entry, said) in said.zip(record.entries()) {
             *entry = said;
         }
         if number != record.number || entries != expected_entries {
@@ -168,20 +162,12 @@ impl Comparison {
                 println!("  both judges:          {record:?}");
                 println!(
                     "  {name}, entry {} from 1: {} expected, {} found",
-                    index as isize - MARGIN as isize + 1,
-                    in_words(&expected[index..=index]),
-                    in_words(&answered[index..=index])
+                    entry_number(index),
+                    entry_in_words(expected[index]),
+                    entry_in_words(answered[index])
                 );
                 print_and_exit(case, lengths);
             }
-        }
-    }
-
-    fn note_time(&mut self, case: &Case, time: Duration) {
-        if time > self.slowest {
-            self.slowest = time;
-            let (bytes, name) = (case.message.len(), case.name);
-            self.slowest_call = format!("a message of {bytes} bytes over {name}");
         }
     }
 
@@ -221,11 +207,7 @@ impl Comparison {
             self.unknown_decided,
             self.unknown_open
         );
-        println!(
-            "compare_judge: the archive's slowest answer took {:.3} s: {}",
-            self.slowest.as_secs_f64(),
-            self.slowest_call
-        );
+        self.slowest.print("compare_judge");
     }
 
     /// A number that was not met so often.
@@ -234,46 +216,20 @@ impl Comparison {
     }
 }
 
-fn empty_tables(lengths: [usize; 3]) -> Tables {
-    lengths.map(|length| vec![CANARY; MARGIN + length + MARGIN])
-}
-
-fn lent(tables: &mut Tables) -> [&mut [u32]; 3] {
-    tables.each_mut().map(|table| {
-        let end = table.len() - MARGIN;
-        &mut table[MARGIN..end]
-    })
+fn lent_tables(tables: &mut Tables) -> [&mut [u32]; 3] {
+    tables.each_mut().map(|table| lent(table))
 }
 
 /// Entries in a row, with those that must stay as they are.
 fn in_words(entries: &[u32]) -> String {
-    let word = |entry: &u32| match *entry {
-        CANARY => "as it was".to_string(),
-        entry => entry.to_string(),
-    };
-    entries.iter().map(word).collect::<Vec<_>>().join(", ")
+    let words = entries.iter().map(|entry| entry_in_words(*entry));
+    words.collect::<Vec<_>>().join(", ")
 }
 
 fn print_and_exit(case: &Case, lengths: [usize; 3]) -> ! {
-    let printed = &case.message[..case.message.len().min(LONGEST_PRINTED)];
     println!("  tables' lengths:      {lengths:?}");
     println!("  book:                 {}", case.name);
     println!("  conditions:           {:?}", case.conditions);
-    println!(
-        "  message:              {} bytes, b\"{}\"{}",
-        case.message.len(),
-        printed.escape_ascii(),
-        if printed.len() < case.message.len() {
-            " ..."
-        } else {
-            ""
-        }
-    );
-    for (name, bytes) in [("message", case.message), ("book", case.book)] {
-        match write_hex(&format!("compare_judge_{name}.hex"), bytes) {
-            Ok(path) => println!("  the {name} in hex: {}", path.display()),
-            Err(error) => println!("  the {name} could not be written: {error}"),
-        }
-    }
+    print_input("compare_judge", case.message, case.book);
     exit(1)
 }

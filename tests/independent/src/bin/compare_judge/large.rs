@@ -3,28 +3,19 @@
 
 use crate::comparison::{Case, Comparison};
 use independent::book::encode::encode;
-use independent::book::{check, Book};
 use independent::judging::{Record, LONGEST_MESSAGE, MOST_SEGMENTS};
+use independent::planned::{book_k_with_room, BOOK_K, HEAD_OF_K};
 
-const BOOK_K: &[u8] = include_bytes!("../../../../../books/k.bin");
-const HEAD: &str = "UNH+1'BGM+7'RFF+Z13:10001'";
 const HEAD_SEGMENTS: usize = 3;
 /// A message of one segment too many has 4,000,000 bytes at least.
 const TOO_MANY_SEGMENTS: usize = 2_050;
 const TOO_LONG: usize = 200;
 
 pub fn compare_all(comparison: &mut Comparison) {
-    let book = encode(&book_with_room());
+    let book = encode(&book_k_with_room());
     compare_too_many_segments(comparison, &book);
     compare_lengths(comparison, &book);
     compare_long(comparison, &book);
-}
-
-/// Book K with room for as many positions as there can be.
-fn book_with_room() -> Book {
-    let mut book = check(BOOK_K).expect("a good book");
-    book.lines[3].maximum = 999_999;
-    book
 }
 
 fn case<'a>(message: &'a [u8], book: &'a [u8], conditions: &'a [u8]) -> Case<'a> {
@@ -97,7 +88,7 @@ fn compare_long(comparison: &mut Comparison, book: &[u8]) {
     for quantities in [32_766, 32_767, 32_768, 60_000, (MOST_SEGMENTS - 5) / 2] {
         let n = HEAD_SEGMENTS + 2 * quantities + 2;
         let positions = "LIN+1'QTY+145:5'".repeat(quantities);
-        let message = format!("{HEAD}{positions}LIN+2'UNT+{n}+1'").into_bytes();
+        let message = format!("{HEAD_OF_K}{positions}LIN+2'UNT+{n}+1'").into_bytes();
         let lengths = [n, n + 1, n + 2];
         let row = |number, place, condition| Record {
             line: 6,
@@ -108,7 +99,7 @@ fn compare_long(comparison: &mut Comparison, book: &[u8]) {
         require(comparison, &at(&[1]), lengths, row(14, n - 1, 0));
         require(comparison, &at(&[0]), lengths, row(14, 5, 0));
         require(comparison, &at(&[2]), lengths, row(15, 5, 1));
-        let fits = format!("{HEAD}{positions}UNT+{}+1'", n - 1).into_bytes();
+        let fits = format!("{HEAD_OF_K}{positions}UNT+{}+1'", n - 1).into_bytes();
         let fitting = case(&fits, book, &[1]);
         require(comparison, &fitting, lengths, Record::at(0, n - 1));
     }

@@ -14,7 +14,6 @@ mod large;
 
 use comparison::Comparison;
 use independent::arguments;
-use independent::book::{check, Book};
 use independent::random::Random;
 use std::process::ExitCode;
 
@@ -27,27 +26,19 @@ fn main() -> ExitCode {
         eprintln!("usage: compare_judge BOOK BOOK [SEED], two files and a decimal number");
         return ExitCode::from(2);
     };
-    let mut given = Vec::new();
-    for path in &arguments.books {
-        match read_book(path) {
-            Ok(book) => given.push((path.clone(), book)),
-            Err(error) => {
-                eprintln!("compare_judge: {path}: {error}");
-                return ExitCode::from(2);
-            }
+    let given = match arguments.good_books() {
+        Ok(given) => given,
+        Err(error) => {
+            eprintln!("compare_judge: {error}");
+            return ExitCode::from(2);
         }
-    }
+    };
     println!("compare_judge: seed {}", arguments.seed);
     let mut comparison = Comparison::new(arguments.seed);
     let random = &mut Random::from_seed(arguments.seed);
     generated::compare_all(&mut comparison, random, &given);
     large::compare_all(&mut comparison);
     conclude(&comparison)
-}
-
-fn read_book(path: &str) -> Result<Book, String> {
-    let bytes = std::fs::read(path).map_err(|error| error.to_string())?;
-    check(&bytes).map_err(|fault| format!("malformed: {fault:?}"))
 }
 
 fn conclude(comparison: &Comparison) -> ExitCode {

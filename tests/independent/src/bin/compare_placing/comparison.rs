@@ -5,27 +5,24 @@ use crate::counts::Counts;
 use crate::subject::{Expected, Subject};
 use crate::watch::Watch;
 use independent::archives;
-use independent::hex::write_hex;
+use independent::difference::print_input;
+use independent::lent::{
+    empty_table, entry_in_words, entry_number, lent, CANARY, MARGIN, TABLE_NAMES,
+};
 use independent::random::Random;
+use independent::times::Slowest;
 use std::process::exit;
 use std::time::Duration;
 
+pub const PROGRAM: &str = "compare_placing";
 pub const DIFFERENCE: &str = "compare_placing: DIFFERENCE";
-/// Entries on either side of a lent table that must stay as they are.
-const MARGIN: usize = 2;
-/// No offset, line or segment number of any message compared here.
-const CANARY: u32 = 0xA5A5_A5A5;
-const TABLE_NAMES: [&str; 3] = ["starts", "homes", "parents"];
-/// Longer messages are printed only in part.
-const LONGEST_PRINTED: usize = 2_000;
 
 pub struct Comparison {
     counts: Counts,
     watch: Watch,
     /// Where the lengths of lent tables come from.
     lengths: Random,
-    slowest: Duration,
-    slowest_call: String,
+    slowest: Slowest,
 }
 
 impl Comparison {
@@ -34,8 +31,7 @@ impl Comparison {
             counts: Counts::new(),
             watch: Watch::new(),
             lengths: Random::from_seed(!seed),
-            slowest: Duration::ZERO,
-            slowest_call: String::new(),
+            slowest: Slowest::default(),
         }
     }
 
@@ -81,7 +77,7 @@ impl Comparison {
         lengths: [usize; 3],
     ) {
         let asked = self.asked(expected.starts.len());
-        let mut tables = lengths.map(|length| vec![CANARY; MARGIN + length + MARGIN]);
+        let mut tables = lengths.map(empty_table);
         let [starts, homes, parents] = &mut tables;
         let ask = || {
             archives::write_tree(
@@ -132,30 +128,19 @@ impl Comparison {
     }
 
     fn note_time(&mut self, subject: &Subject, message: &[u8], time: Duration) {
-        if time > self.slowest {
-            self.slowest = time;
-            let bytes = message.len();
-            self.slowest_call = format!("{bytes} bytes over {}", subject.name);
-        }
+        self.slowest.note(time, || {
+            let (bytes, name) = (message.len(), &subject.name);
+            format!("{bytes} bytes over {name}")
+        });
     }
 
     pub fn print(&self) {
         self.counts.print();
-        println!(
-            "compare_placing: the archive's slowest answer took {:.3} s: {}",
-            self.slowest.as_secs_f64(),
-            self.slowest_call
-        );
+        self.slowest.print(PROGRAM);
     }
 }
 
-fn lent(table: &mut [u32]) -> &mut [u32] {
-    let end = table.len() - MARGIN;
-    &mut table[MARGIN..end]
-}
-
 struct Wrong {
-    /// From 1, as segments; 0 and less lie before the table.
     entry: isize,
     expected: String,
     found: String,
@@ -173,49 +158,22 @@ fn first_wrong(table: &[u32], written: usize, entries: Option<&[u32]>) -> Option
         };
         if found != expected {
             return Some(Wrong {
-                entry: index as isize - MARGIN as isize + 1,
-                expected: in_words(expected),
-                found: in_words(found),
+                entry: entry_number(index),
+                expected: entry_in_words(expected),
+                found: entry_in_words(found),
             });
         }
     }
     None
 }
 
-fn in_words(entry: u32) -> String {
-    match entry {
-        CANARY => "as it was".to_string(),
-        _ => entry.to_string(),
-    }
-}
-
 /// Prints the difference and ends the program.
 fn report(subject: &Subject, message: &[u8], question: &str, expected: &str, answered: &str) -> ! {
     println!("{DIFFERENCE}");
-    println!("  question:            {question}");
-    println!("  independent placing: {expected}");
-    println!("  proved archive:      {answered}");
-    println!("  book:                {}", subject.name);
-    print_input(message, &subject.bytes);
+    println!("  question:             {question}");
+    println!("  independent placing:  {expected}");
+    println!("  proved archive:       {answered}");
+    println!("  book:                 {}", subject.name);
+    print_input(PROGRAM, message, &subject.bytes);
     exit(1)
-}
-
-pub fn print_input(message: &[u8], book: &[u8]) {
-    let printed = &message[..message.len().min(LONGEST_PRINTED)];
-    println!(
-        "  message:             {} bytes, b\"{}\"{}",
-        message.len(),
-        printed.escape_ascii(),
-        if printed.len() < message.len() {
-            " ..."
-        } else {
-            ""
-        }
-    );
-    for (name, bytes) in [("message", message), ("book", book)] {
-        match write_hex(&format!("compare_placing_{name}.hex"), bytes) {
-            Ok(path) => println!("  the {name} in hex: {}", path.display()),
-            Err(error) => println!("  the {name} could not be written: {error}"),
-        }
-    }
 }

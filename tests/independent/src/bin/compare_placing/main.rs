@@ -27,16 +27,16 @@ fn main() -> ExitCode {
         eprintln!("usage: compare_placing BOOK BOOK [SEED], two files and a decimal number");
         return ExitCode::from(2);
     };
-    let mut given = Vec::new();
-    for path in &arguments.books {
-        match Subject::from_file(path) {
-            Ok(subject) => given.push(subject),
-            Err(error) => {
-                eprintln!("compare_placing: {path}: {error}");
-                return ExitCode::from(2);
-            }
+    let given: Vec<Subject> = match arguments.good_books() {
+        Ok(given) => given
+            .into_iter()
+            .map(|(path, book)| Subject::good(path, book))
+            .collect(),
+        Err(error) => {
+            eprintln!("compare_placing: {error}");
+            return ExitCode::from(2);
         }
-    }
+    };
     println!("compare_placing: seed {}", arguments.seed);
     let mut comparison = Comparison::new(arguments.seed);
     let random = &mut Random::from_seed(arguments.seed);

@@ -5,7 +5,6 @@ use independent::book::{check, decode, Book};
 use independent::placing::homes::{Homeless, Homes};
 use independent::placing::segments::Segments;
 use independent::placing::{Answer, Placer, NO_HOME};
-use std::io;
 
 pub struct Subject {
     pub name: String,
@@ -78,14 +77,6 @@ impl Subject {
             Err(_) => Known::Nothing,
         };
         Subject { name, bytes, known }
-    }
-
-    /// A file that must be a good book.
-    pub fn from_file(path: &str) -> io::Result<Subject> {
-        let bytes = std::fs::read(path)?;
-        let malformed = |fault| io::Error::other(format!("malformed: {fault:?}"));
-        let book = check(&bytes).map_err(malformed)?;
-        Ok(Subject::good(path.to_string(), book))
     }
 
     /// The book, which must be good.

@@ -1,7 +1,8 @@
 //! Ends the program if the archive does not answer in time, and says for what
 //! message and book.
 
-use crate::comparison::{print_input, DIFFERENCE};
+use crate::comparison::{DIFFERENCE, PROGRAM};
+use independent::difference::print_input;
 use std::process::exit;
 use std::sync::{Arc, Mutex, PoisonError};
 use std::thread;
@@ -33,7 +34,7 @@ impl Watch {
             if call.begin.is_some_and(|begin| begin.elapsed() > TIME_LIMIT) {
                 println!("{DIFFERENCE}");
                 println!("  no answer in {} s", TIME_LIMIT.as_secs());
-                print_input(&call.message, &call.book);
+                print_input(PROGRAM, &call.message, &call.book);
                 exit(1);
             }
         });

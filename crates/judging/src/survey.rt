@@ -1,0 +1,104 @@
+// One pass over a message finds what numbers 4 and 7 ask: how many segments it has, and where UNH and UNT stand. Each of these could
+// be found by itself; both at once saves reading all bytes once more.
+ghost use mathlib.Core.Path.{_≡_};
+ghost use mathlib.Core.Bool.{cond, not};
+ghost use Prim.Native.Nat.{_≤_};
+ghost use lib.ListN.{length};
+ghost use Rattle.reading.specs.Limits.{mostBytes};
+ghost use Rattle.judging.specs.Message.{isMisplaced};
+ghost use Rattle.judging.specs.Survey.{misplacedBy, frameBy, surveyed};
+use reading::cursor;
+use reading::cursor::End;
+use reading::scan;
+use reading::service::Service;
+use reading::tag;
+
+// The tags of a message's first and last segment, first byte lowest.
+const TAG_UNH: u32 = 0x484e55;
+
+const TAG_UNT: u32 = 0x544e55;
+
+// The first segment that is a UNH or a UNT and should not be, or the other way round; or where the last segment starts.
+pub enum Frame {
+    Misplaced(u32),
+    Closes(usize),
+}
+
+// Number 4's place; or how many segments a well-formed message has, and number 7's.
+pub enum Survey {
+    BadAt(usize),
+    Segments(u32, Frame),
+}
+
+// Is this so and should not be, or the other way round?
+fn differs(wanted: bool, is: bool) -> bool
+    ensures { λ r. ⌜ r ≡ cond wanted (not is) is ⌝ }
+{
+    if wanted {
+        return !is;
+    }
+    is
+}
+
+fn is_misplaced(segments: u32, place: u32, tag: u32) -> bool
+    ensures { λ r. ⌜ r ≡ isMisplaced segments place tag ⌝ }
+{
+    if differs(place == 1, tag == TAG_UNH) {
+        return true;
+    }
+    differs(place == segments, tag == TAG_UNT)
+}
+
+// The first misplaced segment, where that of the segments before this place is known; 0 for none. No segment has place 0.
+fn first_misplaced(before: u32, segments: u32, place: u32, tag: u32) -> u32
+    ensures { λ r. ⌜ r ≡ misplacedBy before segments place tag ⌝ }
+{
+    if before != 0 {
+        return before;
+    }
+    if is_misplaced(segments, place, tag) {
+        return place;
+    }
+    0
+}
+
+// What the last segment, which starts at an offset, closes.
+fn frame_of(misplaced: u32, last: usize) -> Frame
+    ensures { λ r. ⌜ r ≡ frameBy misplaced last ⌝ }
+{
+    if misplaced != 0 {
+        return Frame::Misplaced(misplaced);
+    }
+    Frame::Closes(last)
+}
+
+// Whether a segment is the last one is known when the next one has been found, so each is tested then.
+pub fn make_survey(service: Service, message: &[u8]) -> Survey
+    requires { ⌜ length (now message) ≤ mostBytes ⌝ }
+    ensures { λ r. ⌜ r ≡ surveyed service (now (message .entry)) ⌝ }
+{
+    let mut segments: u32 = 0;
+    let mut misplaced: u32 = 0;
+    let mut last: usize = 0;
+    let mut at: usize = 0;
+    while at < message.len() {
+        match cursor::segment_end(service, message, at) {
+            End::At(end) => {
+                let tag = tag::tag_at(message, last);
+                misplaced = first_misplaced(misplaced, segments + 1, segments, tag);
+                segments += 1;
+                last = at;
+                at = end + 1;
+            }
+            End::Nowhere => {
+                return Survey::BadAt(scan::find_bad(service, message, at));
+            }
+        }
+    }
+    if segments == 0 {
+        return Survey::BadAt(at);
+    }
+    let tag = tag::tag_at(message, last);
+    misplaced = first_misplaced(misplaced, segments, segments, tag);
+    Survey::Segments(segments, frame_of(misplaced, last))
+}
