@@ -1,6 +1,7 @@
 -- Laws of guide books: first of rules, then of books.
 pub mod Rules
 pub mod Tables
+pub mod Passing
 pub mod Checking
 pub mod Bytes
 pub mod Inhabited

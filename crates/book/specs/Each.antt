@@ -1,8 +1,9 @@
 -- The order in which a book's rules are tested, and which rule each loop asks for. What a good book is stands in GoodBook.antt.
 use Prim.Native.Nat.{ℕ, _+_, _*_, _-_, _≤_, _<_, _^_}
+use mathlib.Core.Path.{_≡_}
 use mathlib.Core.List.{List}
 use Rattle.book.specs.Guide.{Guide}
-use Rattle.book.specs.Rule.{Rule, _and_, every}
+use Rattle.book.specs.Rule.{Rule, _and_, every, all, run}
 use Rattle.book.specs.GoodBook.{editionRule, lengthRule, blocksRule, countsRule, lineRule, codeRule, fieldRule, identifierRule, rowRule, fieldRises, deeperRule, framesRule, carrierRule, structureRule, pairRule}
 use Rattle.book.specs.declared.every.Each.{Each}
 use Rattle.book.specs.declared.every.Each.the-variants.{Line, Code, Field, Identifier, Row, FieldRises, Deeper}
@@ -51,6 +52,12 @@ homesRule g = every 1 (g .lines) (homeRule g)
 
 unfoldable pub framedRule : Guide → Rule
 framedRule g = framesRule g and carrierRule g and structuresRule g and homesRule g
+
+-- the lines before line l have another tag than line m, so that homeRule is left to be asked from l on
+pub record PassedTo (g : Guide) (m l : ℕ) : Type 0 where
+  pub some : 1 ≤ l
+  pub within : l ≤ m
+  pub same : all l (m - l) (λ i. run (pairRule g i m)) ≡ all 1 (m - 1) (λ i. run (pairRule g i m))
 
 -- what a good header leaves: counts that a book of 65,535 bytes has room for
 pub record Small (g : Guide) : Type 0 where

@@ -6,7 +6,7 @@ ghost use Prim.Native.Nat.{_≤_};
 ghost use Rattle.book.specs.Rule.{run};
 ghost use Rattle.book.specs.Guide.{guideOf};
 ghost use Rattle.book.specs.GoodBook.{sameTagRule, samePlaceRule, toldApartRule, pairRule};
-ghost use Rattle.book.specs.Each.{CodesWithin, Within, homeRule, homesRule};
+ghost use Rattle.book.specs.Each.{CodesWithin, Within, PassedTo, homeRule, homesRule};
 ghost use Rattle.book.specs.Tables.{Numbered, Marked};
 use crate::layout;
 use crate::numbering;
@@ -81,13 +81,32 @@ fn is_pair_good(book: &[u8], numbers: &Numbers, marks: &Marks, line: u32, other:
     are_told_apart(book, numbers, marks, line, other)
 }
 
+// The first line before this one that has its tag; this one if there is none. Few lines share a tag, and no others need marks.
+fn first_of_its_tag(book: &[u8], line: u32) -> u32
+    requires { ⌜ 1 ≤ line ⌝ }
+    ensures { λ r. ⌜ PassedTo (guideOf (now (book .entry))) line r ⌝ }
+{
+    let mut earlier: u32 = 1;
+    while earlier < line {
+        if have_same_tag(book, earlier, line) {
+            return earlier;
+        }
+        earlier += 1;
+    }
+    earlier
+}
+
 fn has_one_home(book: &[u8], numbers: &Numbers, line: u32) -> bool
     requires { ⌜ (Numbered (guideOf (now book)) (now numbers)) × (Within (guideOf (now book))) × (1 ≤ line) × (line ≤ guideOf (now book) .lines) ⌝ }
     ensures { λ r. ⌜ r ≡ run (homeRule (guideOf (now (book .entry))) line) ⌝ }
 {
+    let first = first_of_its_tag(book, line);
+    if first == line {
+        return true;
+    }
     let marks = marks_of(book, numbers, line);
-    let mut earlier: u32 = 1;
-    let mut left = line - 1;
+    let mut earlier = first;
+    let mut left = line - first;
     while left > 0 {
         if !is_pair_good(book, numbers, &marks, earlier, line) {
             return false;

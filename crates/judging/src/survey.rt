@@ -62,7 +62,7 @@ fn first_misplaced(before: u32, segments: u32, place: u32, tag: u32) -> u32
     0
 }
 
-// What the last segment, which starts at an offset, closes.
+// The frame, once the first misplaced segment is known and where the last one starts.
 fn frame_of(misplaced: u32, last: usize) -> Frame
     ensures { λ r. ⌜ r ≡ frameBy misplaced last ⌝ }
 {

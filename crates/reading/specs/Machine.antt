@@ -98,7 +98,7 @@ isDead Dead = true
 
 -- ---- a scan
 
--- of so many segments that have ended before the byte at `at`
+-- so many segments have ended, and one more where a state says so
 abbrev pub ended : State → ℕ → ℕ
 ended p n = pick (isStart p) (n + 1) n
 
