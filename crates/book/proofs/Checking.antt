@@ -1,4 +1,4 @@
--- Law check-book: what the check has found decides whether a book is good. And what a good header leaves to the rules after it.
+-- What the check has found decides whether a book is good. And what a good header leaves to the rules after it.
 use Prim.Native.Nat.{ℕ, _<_}
 use native.Mathlib.Omega.{arith}
 use mathlib.Core.Path.{_≡_, refl}

@@ -1,4 +1,4 @@
--- Law book-inhabited: small book K is good, and so is the second small book, by computation; one byte of K changed, and it is not.
+-- Small book K is good, and so is the second small book, by computation; one byte of K changed, and it is not.
 use mathlib.Core.Path.{refl}
 use Rattle.book.specs.Rule.{all}
 use Rattle.book.specs.Guide.{guideOf}

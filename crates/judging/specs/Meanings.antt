@@ -83,7 +83,7 @@ IsLast [] x = ⊥
 IsLast (g ∷ []) x = g ≡ x
 IsLast (g ∷ h ∷ gs) x = IsLast (h ∷ gs) x
 
--- 01, number 8: "UNT element 1, component 1, is .. n in decimal without leading zeros"
+-- 01, number 8: "UNT element 1, component 1, is not n in decimal without leading zeros" is not the case
 abbrev pub TellsCount : Message → Type 0
 TellsCount m = (unt : Segment) → IsLast m unt → InDecimal (length m) (valueAt unt 1 1)
 

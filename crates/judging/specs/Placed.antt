@@ -1,5 +1,5 @@
 -- Numbers 12 to 15 as they are found over the tables: the rows by the pass of rules/specs/Scanning.antt. What they are is said in
--- Table.antt; for the tables of a placed message it is the same (proofs/Clearing.antt).
+-- Table.antt; for the tables of a placed message it is the same (proofs/Decisions.antt).
 use Prim.Native.Nat.{ℕ}
 use mathlib.Core.List.{List}
 use Rattle.book.specs.Guide.{Guide}

@@ -37,7 +37,7 @@ isGood book = run (headerRule book) && (run (recordsRule (guideOf book)) && run 
 abbrev pub bookStage : List ℕ → Verdict
 bookStage book = cond (isGood book) (answer 0 0) (answer 1 0)
 
--- 01, number 2: "conditions not as many as the book says, or a byte above 2"
+-- 01, number 2: "conditions not as many as the book says, or a byte above 2"; no byte is
 unfoldable pub areKnown : List ℕ → Bool
 areKnown [] = true
 areKnown (c ∷ cs) = leb c 2 && areKnown cs

@@ -1,5 +1,5 @@
--- What the search for a home keeps between lines and between segments. Only the contracts of src/home.rt and src/passes.rt speak of
--- it; what a home is stands in Fitting.antt.
+-- What the search for a home keeps between lines and between segments. Only the contracts of src/home.rt speak of it; what a home
+-- is stands in Fitting.antt.
 use Prim.Native.Nat.{ℕ, suc, _+_, _-_, _<_, _^_}
 use mathlib.Core.Path.{_≡_}
 use mathlib.Core.List.{List}

@@ -164,7 +164,7 @@ fn can_move(book: &[u8], level: Level, to: u32) -> bool
     false
 }
 
-// The same, where there may be none.
+// The same as `can_close_all`; where no line is open that deep, that is known at once.
 fn closes_below(book: &[u8], walk: Walk, depth: usize) -> bool
     requires { ⌜ Ready walk × (depth ≤ 8) ⌝ }
     ensures { λ r. ⌜ r ≡ canCloseAll (planIn (now (book .entry))) depth (drop depth (openLines walk)) ⌝ }

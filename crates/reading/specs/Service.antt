@@ -45,8 +45,9 @@ five s = s .component ∷ s .element ∷ s .decimal ∷ s .release ∷ s .termin
 unfoldable pub isWordByte : ℕ → Bool
 isWordByte b = (leb 0x30 b && leb b 0x39) || (leb 0x41 b && leb b 0x5a) || (leb 0x61 b && leb b 0x7a) || eqb b 0x20 || eqb b 0x2d || eqb b 0x2e
 
--- A good set, which the laws about the grammar assume: data bytes, no two the same, and, as 02 (T-03) asks of a file's own,
--- "must not be letters, digits, space, `-`", "and only the decimal mark may be `.`": so no word byte must be released.
+-- A good set, which the laws about the grammar assume: data bytes, no two the same, and no word byte is one that must be released.
+-- 02 (T-03) asks more of a file's own, of the decimal mark too: "must not be letters, digits, space, `-`", "and only the decimal
+-- mark may be `.`"; what the laws need of that mark is GoodMark (fields/specs/Number.antt).
 pub record GoodService (s : Service) : Type 0 where
   pub bytes : All IsData (five s)
   pub different : Different (five s)

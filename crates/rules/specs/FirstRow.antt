@@ -19,7 +19,7 @@ pub record Entry : Type 0 where
   pub conditions : List ℕ
   pub isBrokenBy : Assignment → Bool
 
--- of the Prüfidentifikator with number p, line l, and instance t, where the line's first segment is `seen`
+-- of row w, of line l, in instance t, where the line's first segment is `seen`
 abbrev pub entryFor : Row → ℕ → ℕ → ℕ → Entry
 entryFor w l t seen =
     record {
@@ -46,7 +46,7 @@ unfoldable pub foundUnder : Assignment → List Entry → Finding
 foundUnder a [] = Kept
 foundUnder a (e ∷ es) = cond (e .isBrokenBy a) (Broken (e .place) (e .line)) (foundUnder a es)
 
--- 01: "14: .. broken in every filling"; "15: .. broken in some fillings only", "lowest unknown condition of the row"
+-- 01, number 14: "broken in every filling"; number 15: "broken in some fillings only", "lowest unknown condition of the row"
 abbrev pub reported : List ℕ → Entry → Finding
 reported cs e =
     cond (every cs (e .conditions) (e .isBrokenBy)) (Broken (e .place) (e .line)) (Unsettled (e .place) (e .line) (firstUnknown cs (e .conditions)))
