@@ -12,6 +12,7 @@ import sys
 
 sys.dont_write_bytecode = True  # the repository stays free of what running leaves behind
 
+from guide_book.binary import Binary
 from guide_book.editions import EDITIONS
 from guide_book.model import BadSource
 from guide_book.rules import breaches
@@ -64,7 +65,7 @@ def check_book(source, output):
 
 def encode(source):
     book = read_book(source)
-    return EDITIONS[book.edition].encode(book)
+    return Binary(book, EDITIONS[book.edition]).encode()
 
 
 def names(book):
@@ -81,8 +82,12 @@ def names(book):
         yield "condition", condition.number, condition.printed
 
 
+def name_lines(source):
+    return ["\t".join(map(str, entry)) for entry in names(read_book(source))]
+
+
 def list_names(source):
-    sys.stdout.write("".join("\t".join(map(str, entry)) + "\n" for entry in names(read_book(source))))
+    sys.stdout.write("".join(line + "\n" for line in name_lines(source)))
 
 
 def main(arguments):

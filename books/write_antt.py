@@ -1,7 +1,7 @@
 #!/usr/bin/env python3
 """Writes compiled guide books as lists for the proofs: books/write_antt.py BOOK.bin...
 
-The listing goes to standard output; crates/book/proofs/Bytes.antt is made so (see its first line), and the gate compares."""
+The listing goes to standard output; crates/book_laws/proofs/Bytes.antt is made so (see its first line), and the gate compares."""
 import pathlib
 import sys
 

@@ -46,13 +46,13 @@ static void build_rich(void)
     set_selector(RICH_CARRIER, 1, 1, 2, 1);
     set_selector(RICH_RFF, 1, 1, 3, 1);
     set_selector(RICH_NAD_AGAIN, 1, 1, 4, 1);
-    set_codes(book.fields[0] + FIELD_FIRST_CODE, 0, 2);
+    set_field_codes(0, 0, 2);
     book.condition_count = 3;
     book.carrier = RICH_CARRIER + 1;
     add_identifier("10001");
     add_identifier("10002");
     set_row(0, RICH_RFF, MUST_IF, ANY, 1, NOT + 2, 0);
-    set_row(0, RICH_NAD_AGAIN, NEVER, 0, 0, 0, 0);
+    set_plain_row(0, RICH_NAD_AGAIN, NEVER);
     set_row(1, RICH_RFF, MAY_IF, ALL, NOT + 1, 2, 3);
     set_row(1, RICH_NAD_AGAIN, MAY_IF, ALL, NOT + 3, 0, 0);
 }
@@ -105,21 +105,14 @@ static void check_book(struct source source, uint32_t expected)
 
 /* Changes to the book under test that take more than one assignment. */
 
+static void set_line_number(int line, int at, size_t number)
+{
+    put_two_bytes(book.lines[line] + at, number);
+}
+
 static void set_field_number(int field, int at, size_t number)
 {
-    put_number(book.fields[field] + at, number);
-}
-
-static void set_tag(int line, const char *tag)
-{
-    memcpy(book.lines[line] + LINE_TAG, tag, 3);
-}
-
-static void set_text(int code, const char *text)
-{
-    memset(book.codes[code], 0, CODE_SIZE);
-    book.codes[code][CODE_LENGTH] = (uint8_t)strlen(text);
-    memcpy(book.codes[code] + CODE_TEXT, text, strlen(text));
+    put_two_bytes(book.fields[field] + at, number);
 }
 
 static void set_carrier(size_t number)
@@ -128,31 +121,27 @@ static void set_carrier(size_t number)
 }
 
 /* Makes room at the index; the new line is a copy of the one there. */
-static void repeat_line(size_t index)
+static void repeat_line(int index)
 {
-    size_t following = book.line_count - index;
-    memmove(book.lines[index + 1], book.lines[index], following * LINE_SIZE);
+    size_t following = (book.line_count - (size_t)index) * sizeof(book_record);
+    memmove(book.lines[index + 1], book.lines[index], following);
     for (size_t i = 0; i < book.identifier_count; i++) {
-        memmove(book.rows[i][index + 1], book.rows[i][index], following * ROW_SIZE);
+        memmove(book.rows[i][index + 1], book.rows[i][index], following);
     }
     book.line_count++;
-    if (book.carrier > index) {
+    if (book.carrier > (size_t)index) {
         book.carrier++;
     }
 }
 
 /* Puts a segment line of a new tag before the one at the index. */
-static void insert_segment(size_t index, int depth, const char *tag)
+static void insert_segment(int index, int depth, const char *tag)
 {
     repeat_line(index);
-    memset(book.lines[index], 0, LINE_SIZE);
-    book.lines[index][LINE_KIND] = SEGMENT;
-    book.lines[index][LINE_DEPTH] = (uint8_t)depth;
-    book.lines[index][LINE_MAXIMUM] = 1;
-    memcpy(book.lines[index] + LINE_TAG, tag, 3);
-    for (size_t i = 0; i < book.identifier_count; i++) {
-        memset(book.rows[i][index], 0, ROW_SIZE);
-        book.rows[i][index][ROW_MODE] = MAY;
+    set_line(index, SEGMENT, depth, OPTIONAL);
+    set_tag(index, tag);
+    for (int i = 0; i < (int)book.identifier_count; i++) {
+        set_plain_row(i, index, MAY);
     }
 }
 
@@ -211,11 +200,11 @@ static void build_long(size_t length)
     size_t missing;
     build_smallest();
     missing = length - write_book();
-    if (missing % CODE_SIZE != 0) {
+    if (missing % sizes().code != 0) {
         add_loose_field(1, 1, MAY_HAVE_BYTES, FORM_AN, 1);
-        missing -= FIELD_SIZE;
+        missing -= sizes().field;
     }
-    for (; missing > 0; missing -= CODE_SIZE) {
+    for (; missing > 0; missing -= sizes().code) {
         add_code("A");
     }
 }
@@ -238,10 +227,10 @@ static void test_good_books(void)
 /* Whether K stays good with this value at this offset of its header. */
 static int is_good_in_the_header_of_k(size_t at, int value)
 {
-    if (at == 2 * CONDITION_COUNT) {
-        return value >= 1 && value <= 64;
+    if (at == HEADER_CONDITION_COUNT) {
+        return value >= 1 && value <= MOST_CONDITIONS;
     }
-    if (at == 2 * CARRIER) {
+    if (at == HEADER_CARRIER) {
         return value == K_UNH + 1 || value == K_BGM + 1 || value == K_RFF + 1 ||
                value == K_UNT + 1;
     }
@@ -250,7 +239,7 @@ static int is_good_in_the_header_of_k(size_t at, int value)
 
 static void test_every_value_of_every_header_byte(void)
 {
-    for (size_t at = 0; at < HEADER_SIZE; at++) {
+    for (size_t at = 0; at < sizes().header; at++) {
         for (int value = 0; value <= 0xFF; value++) {
             size_t length;
             int is_good;
@@ -263,24 +252,24 @@ static void test_every_value_of_every_header_byte(void)
     }
 }
 
-static void check_header_number(struct source source, int index, size_t number)
+static void check_header_number(struct source source, size_t at, size_t number)
 {
     size_t length = write_book();
-    put_header_number(index, number);
+    put_header_number(at, number);
     check_bytes(source, length, IS_MALFORMED);
 }
 
 /* A block's offset is the sum of what lies before it, also if it is empty. */
 static void test_offsets(void)
 {
-    const int offsets[] = {LINES_OFFSET, CODES_OFFSET, FIELDS_OFFSET,
-                           IDENTIFIERS_OFFSET, ROWS_OFFSET};
+    const size_t offsets[] = {HEADER_LINES_OFFSET, HEADER_CODES_OFFSET,
+                              HEADER_FIELDS_OFFSET, HEADER_IDENTIFIERS_OFFSET,
+                              HEADER_ROWS_OFFSET};
     for (size_t i = 0; i < sizeof offsets / sizeof offsets[0]; i++) {
-        const uint8_t *number = bytes + 2 * offsets[i];
         size_t offset;
         build_rich();
         write_book();
-        offset = number[0] + 256U * number[1];
+        offset = two_bytes(bytes + offsets[i]);
         check_header_number(HERE, offsets[i], offset - 1);
         check_header_number(HERE, offsets[i], offset + 1);
         check_header_number(HERE, offsets[i], 0);
@@ -301,11 +290,11 @@ static void test_every_length(void)
     check_bytes(HERE, length + 8, IS_MALFORMED);
     check_bytes(HERE, length + 65536, IS_MALFORMED);
     for (size_t longer = length + 1; longer < length + 30; longer++) {
-        put_header_number(TOTAL_LENGTH, longer);
+        put_header_number(HEADER_LENGTH, longer);
         check_bytes(HERE, longer, IS_MALFORMED);
     }
-    for (size_t shorter = HEADER_SIZE; shorter < length; shorter++) {
-        put_header_number(TOTAL_LENGTH, shorter);
+    for (size_t shorter = sizes().header; shorter < length; shorter++) {
+        put_header_number(HEADER_LENGTH, shorter);
         check_bytes(HERE, shorter, IS_MALFORMED);
     }
 }
@@ -323,14 +312,17 @@ static void test_the_longest_book(void)
     check_bytes(HERE, 65535, IS_MALFORMED);
 }
 
-/* Counts so large that the length is the right one again in 16 bits. */
+/* Counts so large that the length is the right one again in 16 bits: a field's size
+ * is no power of two, but three times 4. */
 static void test_counts_that_wrap(void)
 {
     build_k();
-    check_header_number(HERE, CODE_COUNT, book.code_count + 65536 / CODE_SIZE);
-    check_header_number(HERE, FIELD_COUNT, book.field_count + 65536 / 4);
-    check_header_number(HERE, IDENTIFIER_COUNT,
-                        book.identifier_count + 65536 / IDENTIFIER_SIZE);
+    check_header_number(HERE, HEADER_CODE_COUNT,
+                        book.code_count + 65536 / sizes().code);
+    check_header_number(HERE, HEADER_FIELD_COUNT,
+                        book.field_count + 3 * 65536 / sizes().field);
+    check_header_number(HERE, HEADER_IDENTIFIER_COUNT,
+                        book.identifier_count + 65536 / sizes().identifier);
 }
 
 static void test_counts(void)
@@ -341,8 +333,8 @@ static void test_counts(void)
     MALFORMED(build_smallest(), book.line_count = 1);
     MALFORMED(build_smallest(), book.line_count = 0);
     MALFORMED(build_k(), book.identifier_count = 0);
-    GOOD(build_k(), book.condition_count = 64);
-    MALFORMED(build_k(), book.condition_count = 65);
+    GOOD(build_k(), book.condition_count = MOST_CONDITIONS);
+    MALFORMED(build_k(), book.condition_count = MOST_CONDITIONS + 1);
 }
 
 static void test_the_carrier(void)
@@ -366,10 +358,10 @@ static void test_the_carrier(void)
 
 static void test_lines(void)
 {
-    MALFORMED(build_k(), book.lines[K_BGM][LINE_KIND] = 0);
-    MALFORMED(build_k(), book.lines[K_BGM][LINE_KIND] = 3);
-    MALFORMED(build_k(), book.lines[K_GROUP][LINE_KIND] = 3);
-    MALFORMED(build_k(), book.lines[K_QTY][LINE_REQUIRED] = 2);
+    MALFORMED(build_k(), book.lines[K_BGM][LINE_KIND] = SEGMENT - 1);
+    MALFORMED(build_k(), book.lines[K_BGM][LINE_KIND] = GROUP + 1);
+    MALFORMED(build_k(), book.lines[K_GROUP][LINE_KIND] = GROUP + 1);
+    MALFORMED(build_k(), book.lines[K_QTY][LINE_REQUIRED] = REQUIRED + 1);
     MALFORMED(build_k(), book.lines[K_BGM][LINE_REQUIRED] = 0xFF);
     GOOD(build_k(), set_maximum(K_QTY, 999999));
     MALFORMED(build_k(), set_maximum(K_QTY, 1000000));
@@ -386,7 +378,7 @@ static int is_tag_byte(int byte)
 static void test_every_byte_of_a_tag(void)
 {
     for (int byte = 0; byte <= 0xFF; byte++) {
-        for (int place = LINE_TAG; place < LINE_TAG + 3; place++) {
+        for (int place = LINE_TAG; place < LINE_TAG + TAG_LENGTH; place++) {
             build_k();
             book.lines[K_BGM][place] = (uint8_t)byte;
             check_book(HERE, is_tag_byte(byte) ? IS_GOOD : IS_MALFORMED);
@@ -448,7 +440,7 @@ static void test_every_byte_of_a_code(void)
     for (int byte = 0; byte <= 0xFF; byte++) {
         for (int place = CODE_TEXT; place < CODE_ZERO; place++) {
             build_rich();
-            set_text(4, "abcdef");
+            set_code(4, "abcdef");
             book.codes[4][place] = (uint8_t)byte;
             check_book(HERE, is_code_byte(byte) ? IS_GOOD : IS_MALFORMED);
         }
@@ -457,12 +449,12 @@ static void test_every_byte_of_a_code(void)
 
 static void test_codes(void)
 {
-    GOOD(build_rich(), set_text(4, "D"));
-    MALFORMED(build_rich(), memset(book.codes[4], 0, CODE_SIZE));
+    GOOD(build_rich(), set_code(4, "D"));
+    MALFORMED(build_rich(), set_code(4, ""));
     MALFORMED(build_rich(), book.codes[4][CODE_LENGTH] = 1);
     MALFORMED(build_rich(), book.codes[4][CODE_LENGTH] = 3);
-    MALFORMED(build_rich(), set_text(4, "abcdefg"));
-    MALFORMED(build_rich(), set_text(4, "abcdef"); book.codes[4][CODE_LENGTH] = 7);
+    MALFORMED(build_rich(), set_code(4, "abcdefg"));
+    MALFORMED(build_rich(), set_code(4, "abcdef"); book.codes[4][CODE_LENGTH] = 7);
     MALFORMED(build_rich(), book.codes[4][CODE_ZERO] = 1);
     MALFORMED(build_rich(), book.codes[4][CODE_ZERO - 1] = 'A');
     GOOD(build_k(), add_code("unused"));
@@ -476,11 +468,11 @@ static void test_fields(void)
     GOOD(build_k(), book.fields[1][FIELD_COMPONENT] = 255);
     MALFORMED(build_k(), book.fields[1][FIELD_ELEMENT] = 0);
     MALFORMED(build_k(), book.fields[1][FIELD_COMPONENT] = 0);
-    GOOD(build_k(), book.fields[1][FIELD_PRESENCE] = 0);
-    GOOD(build_k(), book.fields[1][FIELD_PRESENCE] = 3);
-    MALFORMED(build_k(), book.fields[1][FIELD_PRESENCE] = 4);
-    MALFORMED(build_k(), book.fields[1][FIELD_FORM] = 0);
-    MALFORMED(build_k(), book.fields[1][FIELD_FORM] = 3);
+    GOOD(build_k(), book.fields[1][FIELD_PRESENCE] = MUST_BE_EMPTY);
+    GOOD(build_k(), book.fields[1][FIELD_PRESENCE] = MUST_IF_ELEMENT);
+    MALFORMED(build_k(), book.fields[1][FIELD_PRESENCE] = MUST_IF_ELEMENT + 1);
+    MALFORMED(build_k(), book.fields[1][FIELD_FORM] = FORM_AN - 1);
+    MALFORMED(build_k(), book.fields[1][FIELD_FORM] = FORM_N + 1);
     GOOD(build_k(), set_field_number(1, FIELD_LONGEST, 1));
     GOOD(build_k(), set_field_number(1, FIELD_LONGEST, 256));
     GOOD(build_k(), set_field_number(1, FIELD_LONGEST, 65535));
@@ -489,14 +481,14 @@ static void test_fields(void)
     MALFORMED(build_k(), book.fields[8][FIELD_ZEROS + 1] = 1);
     MALFORMED(build_k(), set_field_number(1, FIELD_CODE_COUNT, 1));
     MALFORMED(build_k(), set_field_number(1, FIELD_FIRST_CODE, 1));
-    GOOD(build_rich(), set_codes(book.fields[1] + FIELD_FIRST_CODE, 0, 5));
-    MALFORMED(build_rich(), set_codes(book.fields[1] + FIELD_FIRST_CODE, 0, 6));
-    MALFORMED(build_rich(), set_codes(book.fields[1] + FIELD_FIRST_CODE, 5, 1));
-    MALFORMED(build_rich(), set_codes(book.fields[1] + FIELD_FIRST_CODE, 5, 0));
-    MALFORMED(build_rich(), set_codes(book.fields[1] + FIELD_FIRST_CODE, 65535, 2));
+    GOOD(build_rich(), set_field_codes(1, 0, 5));
+    MALFORMED(build_rich(), set_field_codes(1, 0, 6));
+    MALFORMED(build_rich(), set_field_codes(1, 5, 1));
+    MALFORMED(build_rich(), set_field_codes(1, 5, 0));
+    MALFORMED(build_rich(), set_field_codes(1, 65535, 2));
     GOOD(build_k(), add_loose_field(1, 1, MAY_HAVE_BYTES, FORM_AN, 3));
     MALFORMED(build_k(), add_loose_field(0, 1, MAY_HAVE_BYTES, FORM_AN, 3));
-    MALFORMED(build_k(), add_loose_field(1, 1, MAY_HAVE_BYTES, 0, 3));
+    MALFORMED(build_k(), add_loose_field(1, 1, MAY_HAVE_BYTES, FORM_AN - 1, 3));
 }
 
 /* Fields 2 and 3 of K are the RFF line's. */
@@ -521,11 +513,6 @@ static void test_fields_rise(void)
     MALFORMED(build_k(), set_line_number(K_RFF, LINE_FIELD_COUNT, 3));
 }
 
-static void set_identifier(int index, const char *digits)
-{
-    memcpy(book.identifiers[index] + IDENTIFIER_DIGITS, digits, 5);
-}
-
 static void test_identifiers(void)
 {
     GOOD(build_rich(), set_identifier(0, "00000"); set_identifier(1, "99999"));
@@ -539,7 +526,7 @@ static void test_identifiers(void)
         MALFORMED(build_k(), book.identifiers[0][place] = 'A');
         MALFORMED(build_k(), book.identifiers[0][place] = 0);
     }
-    for (int place = IDENTIFIER_ZEROS; place < IDENTIFIER_SIZE; place++) {
+    for (size_t place = IDENTIFIER_ZEROS; place < sizes().identifier; place++) {
         MALFORMED(build_k(), book.identifiers[0][place] = 1);
         MALFORMED(build_rich(), book.identifiers[1][place] = '0');
     }
@@ -548,15 +535,15 @@ static void test_identifiers(void)
 static void test_plain_rows(void)
 {
     for (int mode = NEVER; mode <= MAY; mode++) {
-        GOOD(build_rich(), set_row(1, RICH_RFF, mode, 0, 0, 0, 0));
-        for (int place = ROW_JOINT; place < ROW_SIZE; place++) {
-            MALFORMED(build_rich(), set_row(1, RICH_RFF, mode, 0, 0, 0, 0);
+        GOOD(build_rich(), set_plain_row(1, RICH_RFF, mode));
+        for (size_t place = ROW_JOINT; place < sizes().row; place++) {
+            MALFORMED(build_rich(), set_plain_row(1, RICH_RFF, mode);
                       book.rows[1][RICH_RFF][place] = 1);
         }
     }
-    MALFORMED(build_rich(), set_row(1, RICH_RFF, 5, 0, 0, 0, 0));
-    MALFORMED(build_rich(), set_row(1, RICH_RFF, 5, ALL, 1, 0, 0));
-    MALFORMED(build_rich(), set_row(0, RICH_RFF, 255, 0, 0, 0, 0));
+    MALFORMED(build_rich(), set_plain_row(1, RICH_RFF, MAY_IF + 1));
+    MALFORMED(build_rich(), set_row(1, RICH_RFF, MAY_IF + 1, ALL, 1, 0, 0));
+    MALFORMED(build_rich(), set_plain_row(0, RICH_RFF, 0xFF));
 }
 
 /* The second Pruefidentifikator's row of a line that may be left out. */
@@ -574,7 +561,7 @@ static void test_conditions(void)
         GOOD_ROW(mode, ALL, NOT + 1, 2, 3);
         GOOD_ROW(mode, ANY, 1, NOT + 2, NOT + 3);
         MALFORMED_ROW(mode, ALL, 0, 0, 0);
-        MALFORMED_ROW(mode, 0, 0, 0, 0);
+        MALFORMED_ROW(mode, NO_JOINT, 0, 0, 0);
         MALFORMED_ROW(mode, ALL, 4, 0, 0);
         MALFORMED_ROW(mode, ALL, NOT + 4, 0, 0);
         MALFORMED_ROW(mode, ALL, 1, 2, 4);
@@ -592,20 +579,20 @@ static void test_conditions(void)
         MALFORMED_ROW(mode, ALL, 1, 3, 2);
         MALFORMED_ROW(mode, ALL, 1, 2, 2);
     }
-    GOOD(build_k(), book.condition_count = 64;
-         set_row(0, K_QTY, MAY_IF, ALL, NOT + 64, 0, 0));
+    GOOD(build_k(), book.condition_count = MOST_CONDITIONS;
+         set_row(0, K_QTY, MAY_IF, ALL, NOT + MOST_CONDITIONS, 0, 0));
     MALFORMED(build_k(), book.condition_count = 0);
 }
 
 static void test_joints(void)
 {
     GOOD_ROW(MUST_IF, ANY, 1, 2, 0);
-    MALFORMED_ROW(MUST_IF, 0, 1, 2, 0);
-    MALFORMED_ROW(MUST_IF, 3, 1, 2, 0);
+    MALFORMED_ROW(MUST_IF, NO_JOINT, 1, 2, 0);
+    MALFORMED_ROW(MUST_IF, ANY + 1, 1, 2, 0);
     MALFORMED_ROW(MUST_IF, ANY, 1, 0, 0);
-    MALFORMED_ROW(MAY_IF, 0, 1, 0, 0);
-    MALFORMED_ROW(MAY_IF, 3, 1, 0, 0);
-    for (int place = ROW_ZEROS; place < ROW_SIZE; place++) {
+    MALFORMED_ROW(MAY_IF, NO_JOINT, 1, 0, 0);
+    MALFORMED_ROW(MAY_IF, ANY + 1, 1, 0, 0);
+    for (size_t place = ROW_ZEROS; place < sizes().row; place++) {
         MALFORMED(build_k(), book.rows[0][K_QTY][place] = 1);
     }
 }
@@ -618,19 +605,19 @@ static void test_rows_of_required_lines(void)
             if (line == RICH_RFF || line == RICH_NAD_AGAIN) {
                 continue;
             }
-            MALFORMED(build_rich(), set_row(identifier, line, NEVER, 0, 0, 0, 0));
-            MALFORMED(build_rich(), set_row(identifier, line, MAY, 0, 0, 0, 0));
+            MALFORMED(build_rich(), set_plain_row(identifier, line, NEVER));
+            MALFORMED(build_rich(), set_plain_row(identifier, line, MAY));
             MALFORMED(build_rich(), set_row(identifier, line, MUST_IF, ALL, 1, 0, 0));
             MALFORMED(build_rich(), set_row(identifier, line, MAY_IF, ALL, 1, 0, 0));
         }
     }
-    GOOD(build_rich(), set_row(0, RICH_RFF, MUST, 0, 0, 0, 0));
+    GOOD(build_rich(), set_plain_row(0, RICH_RFF, MUST));
 }
 
 static void test_depths(void)
 {
-    GOOD(build_nested(7), UNCHANGED);
-    MALFORMED(build_nested(8), UNCHANGED);
+    GOOD(build_nested(MOST_DEPTHS - 1), UNCHANGED);
+    MALFORMED(build_nested(MOST_DEPTHS), UNCHANGED);
     MALFORMED(build_k(), book.lines[K_BGM][LINE_DEPTH] = 1);
     MALFORMED(build_k(), book.lines[K_QTY][LINE_DEPTH] = 2);
     MALFORMED(build_k(), book.lines[K_QTY][LINE_DEPTH] = 255);
@@ -681,17 +668,17 @@ static void test_one_home(void)
     /* The same code, at the same place of the block and at another. */
     MALFORMED(build_rich(), set_selector(RICH_RFF, 1, 1, 2, 1));
     MALFORMED(build_rich(), set_selector(RICH_RFF, 1, 1, 2, 2));
-    MALFORMED(build_rich(), set_text(3, "Z13"));
-    MALFORMED(build_rich(), set_text(4, "MS"));
-    MALFORMED(build_rich(), set_text(4, "MR"));
+    MALFORMED(build_rich(), set_code(3, "Z13"));
+    MALFORMED(build_rich(), set_code(4, "MS"));
+    MALFORMED(build_rich(), set_code(4, "MR"));
     /* Codes that begin one another differ, and so do letters in two cases. */
-    GOOD(build_rich(), set_text(3, "Z1"));
-    GOOD(build_rich(), set_text(3, "Z13Z13"));
-    GOOD(build_rich(), set_text(3, "z13"));
-    GOOD(build_rich(), set_text(2, "ABCDEF"); set_text(3, "ABCDEG"));
+    GOOD(build_rich(), set_code(3, "Z1"));
+    GOOD(build_rich(), set_code(3, "Z13Z13"));
+    GOOD(build_rich(), set_code(3, "z13"));
+    GOOD(build_rich(), set_code(2, "ABCDEF"); set_code(3, "ABCDEG"));
     /* Lines of other tags may share codes, and a line may have one twice. */
-    GOOD(build_rich(), set_text(3, "MS"));
-    GOOD(build_rich(), set_text(1, "MS"));
+    GOOD(build_rich(), set_code(3, "MS"));
+    GOOD(build_rich(), set_code(1, "MS"));
     GOOD(build_lone(), set_selector(RICH_RFF, 1, 1, 0, 5));
 }
 

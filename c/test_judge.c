@@ -272,7 +272,7 @@ static void test_bench_message_with_a_bad_field(void)
 
 static void test_malformed_books(void)
 {
-    for (size_t at = 0; at < HEADER_SIZE; at++) {
+    for (size_t at = 0; at < sizes().header; at++) {
         struct question question = ask(slice_of(HEAD "UNT+4+1'"), NO, ROOM);
         bytes[at] ^= 0x80;
         check(HERE, question, answer_at(1, 0));

@@ -1,121 +1,119 @@
-"""The binary of a guide book, by edition, as document 01 gives it in "The guide book".
+"""The layout of a guide book's binary, by edition, as document 01 gives it in "The guide book": what stands in each record, and
+what the numbers mean. The compiler has it from here alone.
 
-A later edition is a further class in EDITIONS: it takes over this one and changes the records, the header or the limits
-that its change request names. The text names its edition, so older books stay as they are.
+A later edition is one more entry of EDITIONS: it takes over the one before and changes the records or the limits that its
+change request names. The text names its edition, so older books stay as they are.
 """
 
+from enum import IntEnum
 from struct import Struct
 from typing import NamedTuple
 
-SEGMENT_KIND = 1
-GROUP_KIND = 2
-NO_TAG = b"\0\0\0"
+
+class Kind(IntEnum):
+    SEGMENT = 1
+    GROUP = 2
+
+
+class Presence(IntEnum):
+    EMPTY = 0
+    MUST = 1
+    MAY = 2
+    MUST_WITH_ELEMENT = 3
+
+
+class Form(IntEnum):
+    AN = 1
+    N = 2
+
+
+class Mode(IntEnum):
+    NEVER = 0
+    MUST = 1
+    MAY = 2
+    MUST_IF = 3
+    MAY_IF = 4
+
+
+class Joint(IntEnum):
+    NONE = 0
+    ALL = 1
+    ANY = 2
+
+
+# Added to the number of a condition.
 NEGATED = 128
 
+TAG_LENGTH = 3
+LONGEST_CODE = 6
+IDENTIFIER_LENGTH = 5
+ROW_CONDITIONS = 3
 
-class Range(NamedTuple):
-    first: int
-    count: int
-
-
-class FieldRecord(NamedTuple):
-    place: tuple
-    presence: int
-    form: int
-    longest: int
-    codes: Range
+# How a number or some bytes are written, in the words of Python's struct.
+ONE_BYTE, TWO_BYTES, FOUR_BYTES = "B", "H", "I"
 
 
-class Block:
-    """Records in the order in which they are first needed. A run that stands here already is shared, not repeated."""
-
-    def __init__(self):
-        self.records = []
-
-    def place(self, run):
-        if not run:
-            return Range(0, 0)
-        for first in range(len(self.records) - len(run) + 1):
-            if self.records[first:first + len(run)] == run:
-                return Range(first, len(run))
-        self.records.extend(run)
-        return Range(len(self.records) - len(run), len(run))
+def text(longest):
+    """Bytes, zero behind their end."""
+    return f"{longest}s"
 
 
-class Layout:
-    """Where the codes and fields of each line come to stand: first the named lists, then line by line."""
-
-    def __init__(self, book):
-        self.codes = Block()
-        self.fields = Block()
-        for code_list in book.code_lists:
-            self.codes.place(list(code_list.codes))
-        self.selector_codes = []
-        self.line_fields = []
-        for line in book.lines:
-            self.selector_codes.append(self.codes.place(list(line.selector.codes) if line.selector else []))
-            self.line_fields.append(self.fields.place([self.record_of(field) for field in line.fields]))
-
-    def record_of(self, field):
-        codes = self.codes.place(list(field.codes))
-        return FieldRecord(field.place, field.presence, field.form, field.longest, codes)
+def zeros(count):
+    return f"{count}x"
 
 
-class EditionOne:
-    number = 1
-    condition_limit = 64
-    row_literal_limit = 3
+class Record:
+    """The parts of a record in their order, each with the way in which it is written; zeros have no value."""
 
-    header = Struct("<14H")
-    line = Struct("<BB3sBBBHHIHH")
-    code = Struct("<B6sx")
-    field = Struct("<BBBBHHHxx")
-    identifier = Struct("<5s3x")
-    row = Struct("<BB3s3x")
+    def __init__(self, **parts):
+        self.parts = parts
+        self.struct = Struct("<" + "".join(parts.values()))
+        self.size = self.struct.size
 
-    def offsets(self, book, layout):
-        """Where the blocks begin, in their order, and last where the book ends."""
-        blocks = ((self.line, len(book.lines)), (self.code, len(layout.codes.records)),
-                  (self.field, len(layout.fields.records)), (self.identifier, len(book.columns)),
-                  (self.row, len(book.columns) * len(book.lines)))
-        offsets = [self.header.size]
-        for record, count in blocks:
-            offsets.append(offsets[-1] + record.size * count)
-        return offsets
-
-    def length(self, book):
-        return self.offsets(book, Layout(book))[-1]
-
-    def encode(self, book):
-        """The bytes of a book that meets every rule."""
-        layout = Layout(book)
-        parts = [self.encode_header(book, layout)]
-        parts += [self.encode_line(*of_line) for of_line in zip(book.lines, layout.selector_codes, layout.line_fields)]
-        parts += [self.code.pack(len(code), code.encode("ascii")) for code in layout.codes.records]
-        parts += [self.encode_field(record) for record in layout.fields.records]
-        parts += [self.identifier.pack(column.identifier.encode("ascii")) for column in book.columns]
-        parts += [self.encode_row(column.row_of(line)) for column in book.columns for line in book.lines]
-        return b"".join(parts)
-
-    def encode_header(self, book, layout):
-        lines_at, codes_at, fields_at, identifiers_at, rows_at, end = self.offsets(book, layout)
-        carrier = next(line.number for line in book.lines if line.is_carrier)
-        return self.header.pack(
-            self.number, end, len(book.lines), lines_at, len(layout.codes.records), codes_at,
-            len(layout.fields.records), fields_at, len(book.columns), identifiers_at, rows_at,
-            len(book.conditions), carrier, 0)
-
-    def encode_line(self, line, selector_codes, fields):
-        kind, tag = (GROUP_KIND, NO_TAG) if line.is_group else (SEGMENT_KIND, line.name.encode("ascii"))
-        selector_place = line.selector.place if line.selector else (0, 0)
-        return self.line.pack(kind, line.depth, tag, line.required, *selector_place, *selector_codes, line.maximum, *fields)
-
-    def encode_field(self, record):
-        return self.field.pack(*record.place, record.presence, record.form, record.longest, *record.codes)
-
-    def encode_row(self, row):
-        conditions = bytes(literal.number + NEGATED * literal.negated for literal in row.literals)
-        return self.row.pack(row.mode, row.joint, conditions)
+    def pack(self, **values):
+        """The record's bytes, of the values by their names. Those that only another edition has a part for are left out."""
+        return self.struct.pack(*(values[name] for name in self.parts if name != "zeros"))
 
 
-EDITIONS = {edition.number: edition for edition in (EditionOne(),)}
+class Records(NamedTuple):
+    header: Record
+    line: Record
+    code: Record
+    field: Record
+    identifier: Record
+    row: Record
+
+
+class Edition(NamedTuple):
+    number: int
+    records: Records
+    condition_limit: int
+    row_literal_limit: int
+
+
+EDITION_ONE = Edition(
+    number=1,
+    condition_limit=64,
+    row_literal_limit=ROW_CONDITIONS,
+    records=Records(
+        header=Record(
+            edition=TWO_BYTES, length=TWO_BYTES,
+            line_count=TWO_BYTES, lines_at=TWO_BYTES,
+            code_count=TWO_BYTES, codes_at=TWO_BYTES,
+            field_count=TWO_BYTES, fields_at=TWO_BYTES,
+            identifier_count=TWO_BYTES, identifiers_at=TWO_BYTES,
+            rows_at=TWO_BYTES, condition_count=TWO_BYTES, carrier=TWO_BYTES, zeros=zeros(2)),
+        line=Record(
+            kind=ONE_BYTE, depth=ONE_BYTE, tag=text(TAG_LENGTH), required=ONE_BYTE,
+            selector_element=ONE_BYTE, selector_component=ONE_BYTE, first_code=TWO_BYTES, code_count=TWO_BYTES,
+            maximum=FOUR_BYTES, first_field=TWO_BYTES, field_count=TWO_BYTES),
+        code=Record(length=ONE_BYTE, text=text(LONGEST_CODE), zeros=zeros(1)),
+        field=Record(
+            element=ONE_BYTE, component=ONE_BYTE, presence=ONE_BYTE, form=ONE_BYTE, longest=TWO_BYTES,
+            first_code=TWO_BYTES, code_count=TWO_BYTES, zeros=zeros(2)),
+        identifier=Record(digits=text(IDENTIFIER_LENGTH), zeros=zeros(3)),
+        row=Record(mode=ONE_BYTE, joint=ONE_BYTE, conditions=text(ROW_CONDITIONS), zeros=zeros(3)),
+    ),
+)
+
+EDITIONS = {edition.number: edition for edition in (EDITION_ONE,)}

@@ -1,12 +1,12 @@
 """A guide book as its text gives it, before any rule of document 01 has been asked of it.
 
-The numbers of the enumerations are those of the binary, as document 01 gives them in "The guide book".
 `source_line` is everywhere the line of the text where the thing stands.
 """
 
 from dataclasses import dataclass, field
-from enum import IntEnum
 from typing import NamedTuple, Optional
+
+from .editions import Form, Joint, Mode, Presence
 
 
 class BadSource(Exception):
@@ -16,32 +16,6 @@ class BadSource(Exception):
         super().__init__(reason)
         self.source_line = source_line
         self.reason = reason
-
-
-class Presence(IntEnum):
-    EMPTY = 0
-    MUST = 1
-    MAY = 2
-    MUST_WITH_ELEMENT = 3
-
-
-class Form(IntEnum):
-    AN = 1
-    N = 2
-
-
-class Mode(IntEnum):
-    NEVER = 0
-    MUST = 1
-    MAY = 2
-    MUST_IF = 3
-    MAY_IF = 4
-
-
-class Joint(IntEnum):
-    NONE = 0
-    ALL = 1
-    ANY = 2
 
 
 class Place(NamedTuple):

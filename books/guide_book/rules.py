@@ -7,7 +7,8 @@ Every rule takes the edition beside the book, so that a later one can change a l
 import re
 from typing import NamedTuple
 
-from .model import Mode
+from .binary import Binary
+from .editions import IDENTIFIER_LENGTH, LONGEST_CODE, TAG_LENGTH, Mode
 
 LENGTH_LIMIT = 65_535
 LEAST_LINES, MOST_LINES = 2, 256
@@ -16,9 +17,9 @@ MAXIMUM_LIMIT = 999_999
 PLACE_LIMIT = 255
 LONGEST_LIMIT = 65_535
 
-TAG = re.compile("[A-Z0-9]{3}")
-CODE = re.compile("[A-Za-z0-9.]{1,6}")
-IDENTIFIER = re.compile("[0-9]{5}")
+TAG = re.compile(f"[A-Z0-9]{{{TAG_LENGTH}}}")
+CODE = re.compile(f"[A-Za-z0-9.]{{1,{LONGEST_CODE}}}")
+IDENTIFIER = re.compile(f"[0-9]{{{IDENTIFIER_LENGTH}}}")
 HEAD_TAG, END_TAG = "UNH", "UNT"
 
 
@@ -43,7 +44,7 @@ def sizes(book, edition):
     if len(book.conditions) > edition.condition_limit:
         beyond = book.conditions[edition.condition_limit]
         yield Breach(beyond.source_line, f"a book has at most {edition.condition_limit} conditions")
-    length = edition.length(book)
+    length = Binary(book, edition).length()
     if length > LENGTH_LIMIT:
         yield Breach(book.last_source_line, f"a book has at most {LENGTH_LIMIT:,} bytes, this one {length:,}")
 

@@ -5,8 +5,8 @@ Only what cannot be read at all is refused here; what document 01 forbids is lef
 
 import re
 
-from .model import (BadSource, Book, CodeList, Column, Condition, Field, Form, Joint, Line, Literal, Mode, Presence,
-                    Row, Selector)
+from .editions import Form, Joint, Mode, Presence
+from .model import BadSource, Book, CodeList, Column, Condition, Field, Line, Literal, Row, Selector
 from .statement import NUMBER, NUMBER_FORM, PLACE, Statement, split_words
 
 LIST_NAME = re.compile("@[A-Za-z0-9-]+")

@@ -3,15 +3,23 @@
 
     read_book.py BOOK.bin
 
-It trusts the book and checks no rule; only bytes that must be zero and are not are pointed out.
+So the layout stands here a second time, on purpose and in one place: the sizes and words that follow, and the functions that
+take a record's numbers in their order. It trusts the book and checks no rule; only bytes that must be zero and are not are
+pointed out.
 """
 
 import sys
 
+SIZES = {"header": 28, "lines": 20, "codes": 8, "fields": 12, "identifiers": 8, "rows": 8}
+TAG_LENGTH, IDENTIFIER_LENGTH, ROW_CONDITIONS = 3, 5, 3
+
+KINDS = {1: "segment", 2: "group"}
+STATUSES = {0: "not required", 1: "required"}
 PRESENCES = {0: "must be empty", 1: "must have bytes", 2: "may", 3: "must if its element has bytes"}
 FORMS = {1: "an", 2: "n"}
 MODES = {0: "never", 1: "must", 2: "may", 3: "must if", 4: "may if"}
 JOINTS = {0: "", 1: "all of", 2: "any of"}
+NOT = 128
 
 
 class Record:
@@ -32,12 +40,16 @@ class Record:
 
 
 def read_header(data):
-    record = Record(data, 0, 28)
+    record = Record(data, 0, SIZES["header"])
     names = ("edition", "length", "lines", "lines_at", "codes", "codes_at", "fields", "fields_at", "identifiers",
              "identifiers_at", "rows_at", "conditions", "carrier")
     header = {name: record.number(2) for name in names}
     header["end"] = record.end()
     return header
+
+
+def record_of(data, header, block, position):
+    return Record(data, header[block + "_at"] + SIZES[block] * position, SIZES[block])
 
 
 def header_listing(data, header):
@@ -49,13 +61,13 @@ def header_listing(data, header):
 
 
 def line_listing(data, header, number):
-    record = Record(data, header["lines_at"] + 20 * (number - 1), 20)
-    kind, depth, tag, required = record.number(), record.number(), record.take(3), record.number()
+    record = record_of(data, header, "lines", number - 1)
+    kind, depth, tag = KINDS[record.number()], record.number(), record.take(TAG_LENGTH)
+    status = STATUSES[record.number()]
     selector = f"{record.number()}.{record.number()}"
     codes, maximum, fields = (record.number(2), record.number(2)), record.number(4), (record.number(2), record.number(2))
-    what = {1: "segment " + repr(tag.decode("latin-1")), 2: "group" + (" WITH A TAG" if any(tag) else "")}[kind]
-    status = {0: "not required", 1: "required"}[required]
-    yield f"line {number}: {what}, depth {depth}, {status}, maximum {maximum}" + record.end()
+    what = {"segment": " " + repr(tag.decode("latin-1")), "group": " WITH A TAG" if any(tag) else ""}[kind]
+    yield f"line {number}: {kind}{what}, depth {depth}, {status}, maximum {maximum}" + record.end()
     yield f"  selector {selector}, codes {range_listing(*codes)}; fields {range_listing(*fields)}"
 
 
@@ -64,14 +76,14 @@ def range_listing(first, count):
 
 
 def code_listing(data, header, position):
-    record = Record(data, header["codes_at"] + 8 * position, 8)
+    record = record_of(data, header, "codes", position)
     length = record.number()
     code = record.take(length)
     return f"code {position}: {code.decode('latin-1')!r}" + record.end()
 
 
 def field_listing(data, header, position):
-    record = Record(data, header["fields_at"] + 12 * position, 12)
+    record = record_of(data, header, "fields", position)
     place = f"{record.number()}.{record.number()}"
     presence, form, longest = PRESENCES[record.number()], FORMS[record.number()], record.number(2)
     codes = range_listing(record.number(2), record.number(2))
@@ -79,15 +91,15 @@ def field_listing(data, header, position):
 
 
 def row_listing(data, header, position):
-    record = Record(data, header["rows_at"] + 8 * position, 8)
-    mode, joint, conditions = MODES[record.number()], JOINTS[record.number()], record.take(3)
-    shown = [("not " if byte > 128 else "") + f"[{byte % 128}]" for byte in conditions.rstrip(b"\0")]
+    record = record_of(data, header, "rows", position)
+    mode, joint, conditions = MODES[record.number()], JOINTS[record.number()], record.take(ROW_CONDITIONS)
+    shown = [("not " if byte > NOT else "") + f"[{byte % NOT}]" for byte in conditions.rstrip(b"\0")]
     return " ".join([f"  line {position % header['lines'] + 1}: {mode}", *filter(None, [joint, ", ".join(shown)])]) + record.end()
 
 
 def column_listing(data, header, position):
-    record = Record(data, header["identifiers_at"] + 8 * position, 8)
-    yield f"Prüfidentifikator {record.take(5).decode('latin-1')}" + record.end()
+    record = record_of(data, header, "identifiers", position)
+    yield f"Prüfidentifikator {record.take(IDENTIFIER_LENGTH).decode('latin-1')}" + record.end()
     first_row = position * header["lines"]
     yield from (row_listing(data, header, first_row + line) for line in range(header["lines"]))
 

@@ -1,9 +1,9 @@
 /* Numbers 3, 4 and 5 in words: what is wrong with the bytes. */
-#include "describing.h"
+#include "describe_bytes.h"
 
 #include <string.h>
 
-enum { END = '\'', RELEASE = '?', CARRIAGE_RETURN = '\r', LINE_FEED = '\n' };
+enum { CARRIAGE_RETURN = '\r', LINE_FEED = '\n' };
 
 static void append_byte(struct text *text, uint8_t byte)
 {

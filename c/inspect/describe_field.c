@@ -1,5 +1,5 @@
 /* Number 12 in words: which rule of the field failed. */
-#include "describing.h"
+#include "describe_field.h"
 
 /* More codes than these are listed with the field's rule alone. */
 enum { MOST_IN_SENTENCE = 8 };

@@ -1,14 +1,5 @@
 /* Numbers 7, 8 and 9 in words: what is wrong with UNH and UNT. */
-#include "describing.h"
-
-#include <string.h>
-
-static bool has_tag(const struct judgement *judgement, struct segment segment,
-                    const char *tag)
-{
-    const uint8_t *bytes = judgement->message.bytes + segment.part.start;
-    return memcmp(bytes, tag, TAG_LENGTH) == 0;
-}
+#include "describe_frame.h"
 
 static void append_tag(struct text *text, const struct judgement *judgement,
                        struct segment segment)
@@ -21,7 +12,7 @@ static void describe_ends(const struct judgement *judgement, struct finding *fin
     struct text *answer = &finding->answer;
     struct segment segment = finding->segment;
     mark_tag(finding);
-    if (segment.number == 1 && !has_tag(judgement, segment, "UNH")) {
+    if (segment.number == 1 && !has_tag(judgement->message, segment, "UNH")) {
         append(answer, "the first segment must be UNH, and is ");
         append_tag(answer, judgement, segment);
     } else if (judgement->segments == 1) {
@@ -33,7 +24,7 @@ static void describe_ends(const struct judgement *judgement, struct finding *fin
         append_tag(answer, judgement, segment);
         append(answer, " stands amid the segments: a file holds one message");
     }
-    if (segment.number == 1 && has_tag(judgement, segment, "UNB")) {
+    if (segment.number == 1 && has_tag(judgement->message, segment, "UNB")) {
         append(&finding->notes, "The file begins with UNB: it is an interchange. A "
                                 "message runs from UNH to UNT.\n");
     }

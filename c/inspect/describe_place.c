@@ -1,18 +1,8 @@
 /* Numbers 10 and 11 in words: a segment that the guide does not have, or not
  * here. */
-#include "describing.h"
+#include "describe_place.h"
 
 #include "walk.h"
-
-#include <string.h>
-
-static bool has_line_tag(const struct judgement *judgement, struct segment segment,
-                         unsigned line)
-{
-    struct guide_line read = guide_line(judgement->guide, line);
-    const uint8_t *tag = judgement->message.bytes + segment.part.start;
-    return !read.is_group && memcmp(read.tag, tag, TAG_LENGTH) == 0;
-}
 
 static void note_line(const struct guide *guide, unsigned line, struct text *notes)
 {
@@ -33,8 +23,9 @@ void describe_home(const struct judgement *judgement, struct finding *finding)
     show_segment(judgement, finding);
     mark_tag(finding);
     for (unsigned line = 1; line <= line_count(judgement->guide); line++) {
-        if (has_line_tag(judgement, finding->segment, line)) {
-            found = guide_line(judgement->guide, line);
+        struct guide_line read = guide_line(judgement->guide, line);
+        if (has_tag(judgement->message, finding->segment, read.tag)) {
+            found = read;
             note_line(judgement->guide, line, &finding->notes);
         }
     }

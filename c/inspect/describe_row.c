@@ -1,8 +1,11 @@
 /* Numbers 0, 13, 14 and 15 in words: the Pruefidentifikator and its rows. */
-#include "describing.h"
+#include "describe_row.h"
 
 /* As many Pruefidentifikatoren are listed in a sentence. */
 enum { MOST_LISTED = 12 };
+
+/* Where the Pruefidentifikator stands in its segment. */
+enum { IDENTIFIER_ELEMENT = 1, IDENTIFIER_COMPONENT = 2 };
 
 /* The segment that carries the Pruefidentifikator: the one with that home. */
 static struct segment carrier_of(const struct judgement *judgement)
@@ -18,18 +21,9 @@ static struct segment carrier_of(const struct judgement *judgement)
 static int identifier_of(const struct judgement *judgement)
 {
     struct message message = judgement->message;
-    struct part part = component_of(message, carrier_of(judgement), 1, 2);
+    struct part part = component_of(message, carrier_of(judgement), IDENTIFIER_ELEMENT,
+                                    IDENTIFIER_COMPONENT);
     return find_identifier(judgement->guide, message.bytes + part.start, part.length);
-}
-
-static void append_identifier(struct text *text, const struct guide *guide, int index)
-{
-    const char *digits = identifier_digits(guide, (unsigned)index);
-    const char *words = identifier_words(&guide->names, digits);
-    append(text, "%.*s", IDENTIFIER_LENGTH, digits);
-    if (words[0] != '\0') {
-        append(text, " (%s)", words);
-    }
 }
 
 void describe_accepted(const struct judgement *judgement, struct finding *finding)
@@ -40,7 +34,8 @@ void describe_accepted(const struct judgement *judgement, struct finding *findin
     append(&finding->answer, " segments, ");
     append(&finding->answer, "%s%s", title, title[0] == '\0' ? "" : ", ");
     append(&finding->answer, "Prüfidentifikator ");
-    append_identifier(&finding->answer, judgement->guide, finding->identifier);
+    append_identifier(&finding->answer, judgement->guide,
+                      (unsigned)finding->identifier);
 }
 
 void describe_identifier(const struct judgement *judgement, struct finding *finding)
@@ -48,7 +43,7 @@ void describe_identifier(const struct judgement *judgement, struct finding *find
     const struct guide *guide = judgement->guide;
     unsigned count = identifier_count(guide);
     show_segment(judgement, finding);
-    mark_component(judgement, finding, 1, 2);
+    mark_component(judgement, finding, IDENTIFIER_ELEMENT, IDENTIFIER_COMPONENT);
     finding->line = carrier_line(guide);
     append(&finding->answer, "the Prüfidentifikator ");
     append_has(&finding->answer, judgement->message, finding->mark);

@@ -1,27 +1,11 @@
-/* A verdict in words: the facts behind its six numbers, found once and then shown
- * as text (report.c) or JSON (json.c). */
+/* A verdict in words: the facts behind its six numbers, found once and then
+ * shown. */
 #ifndef INSPECT_DESCRIBING_H
 #define INSPECT_DESCRIBING_H
 
-#include "judging.h"
-#include "segments.h"
-#include "text.h"
+#include "finding.h"
 
-struct finding {
-    struct text answer; /* one sentence, without file name and number */
-    bool has_segment;
-    struct segment segment; /* the one that the verdict speaks of */
-    struct part shown;      /* its text, or more */
-    struct part mark;       /* in it, what is at fault; may be empty */
-    unsigned line;          /* of the guide, 0 for none */
-    bool has_field;         /* of that line, and its rule in words */
-    uint32_t element;
-    uint32_t component;
-    struct text field_rule;
-    int identifier; /* its index, -1 for none: whose row it is */
-    struct text row_rule;
-    struct text notes; /* further lines, each with its line end */
-};
+struct finding describe(const struct judgement *judgement);
 
 /* For number 15: what the verdict is if the condition is so. */
 struct answers {
@@ -29,34 +13,8 @@ struct answers {
     struct text answer_if[2]; /* by IS_FALSE and IS_TRUE */
 };
 
-struct finding describe(const struct judgement *judgement);
 struct answers describe_answers(const struct judgement *judgement);
 
-void free_finding(struct finding *finding);
 void free_answers(struct answers *answers);
-
-/* The parts of describe, one for each kind of verdict. */
-void describe_bytes(const struct judgement *judgement, struct finding *finding);
-void describe_frame(const struct judgement *judgement, struct finding *finding);
-void describe_home(const struct judgement *judgement, struct finding *finding);
-void describe_sequence(const struct judgement *judgement, struct finding *finding);
-void describe_field(const struct judgement *judgement, struct finding *finding);
-void describe_identifier(const struct judgement *judgement, struct finding *finding);
-void describe_row(const struct judgement *judgement, struct finding *finding);
-void describe_accepted(const struct judgement *judgement, struct finding *finding);
-
-/* What these parts share: the segment at the verdict's place is what is spoken of,
- * and in it the tag, or a component, is marked. */
-void show_segment(const struct judgement *judgement, struct finding *finding);
-void mark_tag(struct finding *finding);
-void mark_component(const struct judgement *judgement, struct finding *finding,
-                    uint32_t element, uint32_t component);
-
-/* " in SG1 (positions) that segment 4 opens". */
-void append_instance(struct text *text, const struct guide *guide, unsigned group,
-                     uint32_t trigger);
-
-/* "is "5"", or "has no value". */
-void append_has(struct text *text, struct message message, struct part part);
 
 #endif

@@ -2,7 +2,7 @@
 #ifndef INSPECT_EXCERPT_H
 #define INSPECT_EXCERPT_H
 
-#include "describing.h"
+#include "finding.h"
 
 struct excerpt {
     struct part shown;

@@ -1,4 +1,4 @@
-/* A guide book's records, read where document 01 says they stand. */
+/* A guide book's records, read where book_layout.h says they stand. */
 #include "guide.h"
 
 #include <string.h>
@@ -6,29 +6,18 @@
 /* A guide's longest list has some forty; a made-up book may have thousands. */
 enum { MOST_LISTED = 200 };
 
-/* Little-endian, as all numbers of a book. */
-static unsigned two_bytes(const uint8_t *at)
+static unsigned header_number(const struct guide *guide, size_t at)
 {
-    return at[0] | (unsigned)at[1] << 8;
+    return two_bytes(guide->bytes + at);
 }
 
-static uint32_t four_bytes(const uint8_t *at)
+static struct book_sizes sizes_of(const struct guide *guide)
 {
-    return two_bytes(at) | (uint32_t)two_bytes(at + 2) << 16;
-}
-
-static struct codes codes_from(const uint8_t *at)
-{
-    return (struct codes){two_bytes(at), two_bytes(at + 2)};
-}
-
-static unsigned header_number(const struct guide *guide, unsigned index)
-{
-    return two_bytes(guide->bytes + 2 * index);
+    return sizes_of_edition(header_number(guide, HEADER_EDITION));
 }
 
 /* A record of a block whose offset stands in the header. */
-static const uint8_t *record_at(const struct guide *guide, unsigned block, size_t size,
+static const uint8_t *record_at(const struct guide *guide, size_t block, size_t size,
                                 size_t index)
 {
     return guide->bytes + header_number(guide, block) + size * index;
@@ -36,34 +25,35 @@ static const uint8_t *record_at(const struct guide *guide, unsigned block, size_
 
 unsigned line_count(const struct guide *guide)
 {
-    return header_number(guide, LINE_COUNT);
+    return header_number(guide, HEADER_LINE_COUNT);
 }
 
 unsigned condition_count(const struct guide *guide)
 {
-    return header_number(guide, CONDITION_COUNT);
+    return header_number(guide, HEADER_CONDITION_COUNT);
 }
 
 unsigned identifier_count(const struct guide *guide)
 {
-    return header_number(guide, IDENTIFIER_COUNT);
+    return header_number(guide, HEADER_IDENTIFIER_COUNT);
 }
 
 unsigned carrier_line(const struct guide *guide)
 {
-    return header_number(guide, CARRIER);
+    return header_number(guide, HEADER_CARRIER);
 }
 
 struct guide_line guide_line(const struct guide *guide, unsigned line)
 {
-    const uint8_t *at = record_at(guide, LINES_OFFSET, LINE_SIZE, line - 1);
+    const uint8_t *at =
+        record_at(guide, HEADER_LINES_OFFSET, sizes_of(guide).line, line - 1);
     struct guide_line read = {
         .is_group = at[LINE_KIND] == GROUP,
         .depth = at[LINE_DEPTH],
         .required = at[LINE_REQUIRED] == REQUIRED,
-        .element = at[SELECTOR_ELEMENT],
-        .component = at[SELECTOR_COMPONENT],
-        .codes = codes_from(at + LINE_FIRST_CODE),
+        .element = at[LINE_SELECTOR_ELEMENT],
+        .component = at[LINE_SELECTOR_COMPONENT],
+        .codes = {two_bytes(at + LINE_FIRST_CODE), two_bytes(at + LINE_CODE_COUNT)},
         .maximum = four_bytes(at + LINE_MAXIMUM),
         .first_field = two_bytes(at + LINE_FIRST_FIELD),
         .field_count = two_bytes(at + LINE_FIELD_COUNT),
@@ -87,14 +77,15 @@ unsigned parent_line(const struct guide *guide, unsigned line)
 
 static struct guide_field field_at(const struct guide *guide, unsigned index)
 {
-    const uint8_t *at = record_at(guide, FIELDS_OFFSET, FIELD_SIZE, index);
+    const uint8_t *at =
+        record_at(guide, HEADER_FIELDS_OFFSET, sizes_of(guide).field, index);
     return (struct guide_field){
         .element = at[FIELD_ELEMENT],
         .component = at[FIELD_COMPONENT],
         .presence = (enum presence)at[FIELD_PRESENCE],
         .form = (enum form)at[FIELD_FORM],
         .longest = two_bytes(at + FIELD_LONGEST),
-        .codes = codes_from(at + FIELD_FIRST_CODE),
+        .codes = {two_bytes(at + FIELD_FIRST_CODE), two_bytes(at + FIELD_CODE_COUNT)},
     };
 }
 
@@ -113,7 +104,7 @@ bool find_field(const struct guide *guide, unsigned line, uint32_t element,
 
 static const uint8_t *code_at(const struct guide *guide, unsigned index)
 {
-    return record_at(guide, CODES_OFFSET, CODE_SIZE, index);
+    return record_at(guide, HEADER_CODES_OFFSET, sizes_of(guide).code, index);
 }
 
 bool has_code(const struct guide *guide, struct codes codes, const uint8_t *bytes,
@@ -145,8 +136,9 @@ void append_codes(struct text *text, const struct guide *guide, struct codes cod
 
 const char *identifier_digits(const struct guide *guide, unsigned index)
 {
-    return (const char *)record_at(guide, IDENTIFIERS_OFFSET, IDENTIFIER_SIZE, index) +
-           IDENTIFIER_DIGITS;
+    const uint8_t *at =
+        record_at(guide, HEADER_IDENTIFIERS_OFFSET, sizes_of(guide).identifier, index);
+    return (const char *)at + IDENTIFIER_DIGITS;
 }
 
 int find_identifier(const struct guide *guide, const uint8_t *bytes, size_t length)
@@ -163,7 +155,8 @@ int find_identifier(const struct guide *guide, const uint8_t *bytes, size_t leng
 struct row guide_row(const struct guide *guide, unsigned identifier, unsigned line)
 {
     size_t index = (size_t)identifier * line_count(guide) + line - 1;
-    const uint8_t *at = record_at(guide, ROWS_OFFSET, ROW_SIZE, index);
+    const uint8_t *at =
+        record_at(guide, HEADER_ROWS_OFFSET, sizes_of(guide).row, index);
     const uint8_t *conditions = at + ROW_CONDITIONS;
     struct row row = {
         .mode = (enum mode)at[ROW_MODE], .any = at[ROW_JOINT] == ANY, .count = 0};
@@ -191,9 +184,13 @@ void append_short_name(struct text *text, const struct guide *guide, unsigned li
 
 void append_line_name(struct text *text, const struct guide *guide, unsigned line)
 {
-    const char *words = line_words(&guide->names, line);
     append_short_name(text, guide, line);
-    if (words[0] != '\0') {
-        append(text, " (%s)", words);
-    }
+    append_words(text, line_words(&guide->names, line));
+}
+
+void append_identifier(struct text *text, const struct guide *guide, unsigned index)
+{
+    const char *digits = identifier_digits(guide, index);
+    append(text, "%.*s", IDENTIFIER_LENGTH, digits);
+    append_words(text, identifier_words(&guide->names, digits));
 }

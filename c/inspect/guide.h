@@ -12,9 +12,6 @@
 #include <stddef.h>
 #include <stdint.h>
 
-enum { MOST_BOOK_BYTES = 65535, MOST_CONDITIONS = 64, MOST_DEPTHS = 8 };
-enum { TAG_LENGTH = 3, LONGEST_CODE = 6, IDENTIFIER_LENGTH = 5, MOST_IN_ROW = 3 };
-
 struct guide {
     const uint8_t *bytes;
     size_t length;
@@ -100,5 +97,8 @@ void append_line_name(struct text *text, const struct guide *guide, unsigned lin
 
 /* "QTY": the printed name, or the tag, or "group 4". */
 void append_short_name(struct text *text, const struct guide *guide, unsigned line);
+
+/* "10001 (order)": the digits and, if there are any, the printed words. */
+void append_identifier(struct text *text, const struct guide *guide, unsigned index);
 
 #endif

@@ -1,8 +1,8 @@
 /* A verdict as one line of JSON. */
 #include "json.h"
 
+#include "describing.h"
 #include "excerpt.h"
-#include "report.h"
 
 #include <string.h>
 

@@ -3,7 +3,7 @@
 #ifndef INSPECT_JSON_H
 #define INSPECT_JSON_H
 
-#include "describing.h"
+#include "judging.h"
 #include "output.h"
 
 void report_json(struct output *output, const char *name,

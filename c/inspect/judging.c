@@ -98,3 +98,10 @@ const char *status_words(uint32_t number)
 {
     return number == ACCEPTED ? "accepted" : number == OPEN ? "open" : "refused";
 }
+
+const char *value_words(uint8_t value)
+{
+    static const char *const words[] = {
+        [IS_FALSE] = "false", [IS_TRUE] = "true", [IS_UNKNOWN] = "unknown"};
+    return words[value];
+}

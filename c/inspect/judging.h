@@ -66,4 +66,7 @@ const char *number_words(uint32_t number);
 /* "accepted", "refused" or "open". */
 const char *status_words(uint32_t number);
 
+/* "false", "true" or "unknown": what is known of a condition. */
+const char *value_words(uint8_t value);
+
 #endif

@@ -1,8 +1,8 @@
 /* inspect: judges files against a guide book and says what is wrong and where.
  *
  * options.c reads the command line, shelf.c finds the guide book, files.c reads,
- * judging.c asks the library, describing.c and the describe_*.c find the words,
- * report.c, json.c and tree.c show them, totals.c counts. */
+ * judging.c asks the library, describing.c and below it the describe_*.c find the
+ * words, report.c, json.c and tree.c show them, totals.c counts. */
 #include "files.h"
 #include "json.h"
 #include "judging.h"

@@ -1,6 +1,7 @@
 /* What a guide prints beside its numbers. */
 #include "names.h"
 
+#include "../book_layout.h"
 #include "text.h"
 
 #include <stdio.h>
@@ -142,7 +143,7 @@ const char *condition_words(const struct names *names, unsigned condition)
 
 const char *identifier_words(const struct names *names, const char *digits)
 {
-    char key[6];
-    snprintf(key, sizeof key, "%.5s", digits);
+    char key[IDENTIFIER_LENGTH + 1];
+    snprintf(key, sizeof key, "%.*s", IDENTIFIER_LENGTH, digits);
     return find(names, "identifier", key, NULL).words;
 }

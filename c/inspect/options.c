@@ -50,10 +50,8 @@ static unsigned condition_number(const char *words)
 
 static bool read_value(const char *words, uint8_t *value)
 {
-    static const char *const values[] = {
-        [IS_FALSE] = "false", [IS_TRUE] = "true", [IS_UNKNOWN] = "unknown"};
     for (uint8_t i = IS_FALSE; i <= IS_UNKNOWN; i++) {
-        if (strcmp(words, values[i]) == 0) {
+        if (strcmp(words, value_words(i)) == 0) {
             *value = i;
             return true;
         }

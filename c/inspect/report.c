@@ -1,23 +1,14 @@
 /* A verdict as text for a person. */
 #include "report.h"
 
+#include "describing.h"
 #include "excerpt.h"
 
 #include <string.h>
 
-const char *value_words(uint8_t value)
-{
-    return value == IS_UNKNOWN ? "unknown" : value == IS_TRUE ? "true" : "false";
-}
-
 static enum colour colour_of(uint32_t number)
 {
     return number == ACCEPTED ? GREEN : number == OPEN ? YELLOW : RED;
-}
-
-static void append_text(struct text *text, const struct text *more)
-{
-    append_bytes(text, more->bytes, more->length);
 }
 
 /* "refused (12): LIN 1.1 must be a number, and is "1,5"". */
@@ -52,14 +43,6 @@ static void append_place(struct output *output, const struct judgement *judgemen
     append(text, "\n");
 }
 
-/* " (words)" if there are any. */
-static void append_words(struct text *text, const char *words)
-{
-    if (words[0] != '\0') {
-        append(text, " (%s)", words);
-    }
-}
-
 static void append_guide(struct text *text, const struct guide *guide,
                          const struct finding *finding)
 {
@@ -82,10 +65,9 @@ static void append_row(struct text *text, const struct judgement *judgement,
 {
     const struct guide *guide = judgement->guide;
     unsigned identifier = (unsigned)finding->identifier;
-    const char *digits = identifier_digits(guide, identifier);
     struct row row = guide_row(guide, identifier, finding->line);
-    append(text, "  rule of %.*s", IDENTIFIER_LENGTH, digits);
-    append_words(text, identifier_words(&guide->names, digits));
+    append(text, "  rule of ");
+    append_identifier(text, guide, identifier);
     append(text, ": ");
     append_text(text, &finding->row_rule);
     append(text, "\n");

@@ -2,12 +2,9 @@
 #ifndef INSPECT_REPORT_H
 #define INSPECT_REPORT_H
 
-#include "describing.h"
+#include "judging.h"
 #include "output.h"
 
 void report(struct output *output, const char *name, const struct judgement *judgement);
-
-/* "unknown", "false" or "true". */
-const char *value_words(uint8_t value);
 
 #endif

@@ -5,8 +5,6 @@
 
 #include <string.h>
 
-enum { END = '\'', RELEASE = '?' };
-
 /* Just behind the ' that ends the segment in which this offset lies. */
 static size_t end_of_segment(struct message message, size_t at)
 {
@@ -58,6 +56,12 @@ struct segment segment_around(struct message message, size_t offset)
     return segment;
 }
 
+bool has_tag(struct message message, struct segment segment, const char *tag)
+{
+    return strncmp((const char *)message.bytes + segment.part.start, tag,
+                   TAG_LENGTH) == 0;
+}
+
 struct part component_of(struct message message, struct segment segment,
                          uint32_t element, uint32_t component)
 {
@@ -87,7 +91,7 @@ unsigned home_of(const struct guide *guide, struct message message,
 {
     for (unsigned line = 1; line <= line_count(guide); line++) {
         struct guide_line read = guide_line(guide, line);
-        if (memcmp(read.tag, message.bytes + segment.part.start, TAG_LENGTH) != 0) {
+        if (!has_tag(message, segment, read.tag)) {
             continue;
         }
         struct part part =

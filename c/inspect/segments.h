@@ -8,6 +8,9 @@
 #include <stddef.h>
 #include <stdint.h>
 
+/* Service characters. */
+enum { END = '\'', RELEASE = '?' };
+
 struct message {
     const uint8_t *bytes;
     size_t length;
@@ -35,6 +38,9 @@ struct segment segment_around(struct message message, size_t offset);
 
 /* The segment that follows. */
 struct segment next_segment(struct message message, struct segment segment);
+
+/* Whether the segment is of this tag. No segment is of a group's, which is empty. */
+bool has_tag(struct message message, struct segment segment, const char *tag);
 
 /* A component of the segment that starts there. */
 struct part component_of(struct message message, struct segment segment,

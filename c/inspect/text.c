@@ -45,6 +45,11 @@ void append_bytes(struct text *text, const char *bytes, size_t length)
     }
 }
 
+void append_text(struct text *text, const struct text *more)
+{
+    append_bytes(text, more->bytes, more->length);
+}
+
 void append_values(struct text *text, const char *format, va_list values)
 {
     va_list again;
@@ -64,6 +69,13 @@ void append(struct text *text, const char *format, ...)
     va_start(values, format);
     append_values(text, format, values);
     va_end(values);
+}
+
+void append_words(struct text *text, const char *words)
+{
+    if (words[0] != '\0') {
+        append(text, " (%s)", words);
+    }
 }
 
 void append_times(struct text *text, const char *what, size_t times)

@@ -19,12 +19,16 @@ struct text {
 void *need_memory(size_t bytes);
 
 void append_bytes(struct text *text, const char *bytes, size_t length);
+void append_text(struct text *text, const struct text *more);
 
 /* As printf, and as vprintf. */
 void append(struct text *text, const char *format, ...)
     __attribute__((format(printf, 2, 3)));
 void append_values(struct text *text, const char *format, va_list values)
     __attribute__((format(printf, 2, 0), nonnull(2)));
+
+/* " (words)" if there are any. */
+void append_words(struct text *text, const char *words);
 
 /* The same byte or character several times. */
 void append_times(struct text *text, const char *what, size_t times);

@@ -3,7 +3,7 @@
 // worked out from 01. The longest message is run from C (c/test_judge.c).
 mod book_k;
 
-use judging::Verdict;
+use framing::Verdict;
 use libc::STDOUT_FILENO;
 
 fn write(text: &[u8]) {

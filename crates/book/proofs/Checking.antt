@@ -1,14 +1,13 @@
 -- What the check has found decides whether a book is good. And what a good header leaves to the rules after it.
-use Prim.Native.Nat.{ℕ, _<_}
+use Prim.Native.Nat.{ℕ}
 use native.Mathlib.Omega.{arith}
 use mathlib.Core.Path.{_≡_, refl}
 use mathlib.Core.List.{List}
 use mathlib.Core.Bool.{true, false}
-use lib.ListN.{getD}
-use Rattle.book.specs.Guide.{guideOf}
-use Rattle.book.specs.Rule.{Holds, run}
-use Rattle.book.specs.GoodBook.{GoodBook, Judged, lengthRule, countsRule, lineRule, codeRangeRule, rangeRule, identifierRule, rowRule, structureRule, oneHomeRule}
-use Rattle.book.specs.Each.{Small, Within, headerRule, recordsRule, homeRule, framedRule}
+use Rattle.book.specs.meaning.Guide.{guideOf}
+use Rattle.book.specs.meaning.Rule.{Holds, run}
+use Rattle.book.specs.meaning.GoodBook.{GoodBook, Judged, lengthRule, countsRule, lineRule, codeRangeRule, rangeRule, identifierRule, rowRule, structureRule, oneHomeRule}
+use Rattle.book.specs.method.Each.{Small, Within, headerRule, recordsRule, homeRule, framedRule}
 use Rattle.book.proofs.Rules.{run-holds, run-fails}
 
 malformed : {bs : List ℕ} → (GoodBook bs → ⊥) → Judged bs 1
@@ -87,12 +86,12 @@ module _ (bs : List ℕ) where
   runs-good h r f = good-book (run-holds (headerRule bs) h) (run-holds (recordsRule (guideOf bs)) r) (run-holds (framedRule (guideOf bs)) f)
 
   -- counts that the book has room for
-  pub header-small : getD bs 2 0 < 256 → getD bs 3 0 < 256 → run (headerRule bs) ≡ true → Small (guideOf bs)
+  pub header-small : run (headerRule bs) ≡ true → Small (guideOf bs)
   unfolding headerRule lengthRule countsRule guideOf
-  header-small low high e =
+  header-small e =
       let h = run-holds (headerRule bs) e in
-      let written = h .1 .1 .0 .0 in
-      let total = h .1 .1 .0 .1 in
+      let most = h .1 .1 .0 .0 in
+      let total = h .1 .1 .0 .1 .1 in
       let some = h .1 .1 .1 .1 .0 in
       record { some-lines = omega arith; rows = omega arith; codes = omega arith }
 

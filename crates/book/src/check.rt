@@ -1,11 +1,11 @@
 // Is a book good? The rules in an order that keeps hostile books cheap: the header, each record by itself, then the lines
 // among each other.
 ghost use mathlib.Core.Path.{_≡_};
-ghost use Prim.Native.Nat.{_+_, _*_, _-_, _≤_, _<_, _^_};
-ghost use Rattle.book.specs.Rule.{run, every, _and_};
-ghost use Rattle.book.specs.Guide.{guideOf};
-ghost use Rattle.book.specs.GoodBook.{risingFieldsRule, triggerRule, fallRule, aroundRule, carrierGroupRule, structureRule, Judged};
-ghost use Rattle.book.specs.Each.{Small, Within, headerRule, linesRule, codesRule, fieldsRule, identifiersRule, rowsRule, structuresRule, recordsRule, framedRule};
+ghost use Prim.Native.Nat.{_+_, _-_, _≤_, _<_, _^_};
+ghost use Rattle.book.specs.meaning.Rule.{run, every};
+ghost use Rattle.book.specs.meaning.Guide.{guideOf};
+ghost use Rattle.book.specs.meaning.GoodBook.{risingFieldsRule, aroundRule, carrierGroupRule, structureRule, Judged};
+ghost use Rattle.book.specs.method.Each.{Small, Within, headerRule, recordsRule, framedRule};
 use crate::every;
 use crate::every::Each;
 use crate::header;
@@ -13,6 +13,7 @@ use crate::homes;
 use crate::layout;
 use crate::structure;
 use crate::tests;
+use crate::words::KIND_GROUP;
 
 // How many are left from a number on.
 fn less(a: u32, b: u32) -> u32
@@ -39,7 +40,7 @@ fn is_around(book: &[u8], line: u32, other: u32) -> bool
 {
     let next = line + 1;
     let count = less(other, line);
-    (layout::kind(book, line) == 2)
+    (layout::kind(book, line) == KIND_GROUP)
         & ((next <= other) & every::every(book, Each::Deeper, line, next, count))
 }
 
@@ -54,20 +55,13 @@ fn suits_carrier(book: &[u8], line: u32) -> bool
     )
 }
 
-fn suits_neighbours(book: &[u8], line: u32) -> bool
-    requires { ⌜ (line < 2 ^ 16) × (0 < guideOf (now book) .lines) ⌝ }
-    ensures { λ r. ⌜ r ≡ run (risingFieldsRule (guideOf (now (book .entry))) line and triggerRule (guideOf (now (book .entry))) line and fallRule (guideOf (now (book .entry))) line) ⌝ }
-{
-    fields_rise(book, line)
-        & (structure::has_trigger(book, line) & structure::stays_or_falls(book, line))
-}
-
 fn structure_is_good(book: &[u8], line: u32) -> bool
     requires { ⌜ (line < 2 ^ 16) × (0 < guideOf (now book) .lines) ⌝ }
     ensures { λ r. ⌜ r ≡ run (structureRule (guideOf (now (book .entry))) line) ⌝ }
 {
-    suits_neighbours(book, line)
-        & (structure::is_no_other_frame(book, line) & suits_carrier(book, line))
+    let neighbours = fields_rise(book, line)
+        & (structure::has_trigger(book, line) & structure::stays_or_falls(book, line));
+    neighbours & (structure::is_no_other_frame(book, line) & suits_carrier(book, line))
 }
 
 fn structures_are_good(book: &[u8], first: u32, count: u32) -> bool
@@ -94,71 +88,24 @@ fn header_is_good(book: &[u8]) -> bool
             & (header::length_is_good(book) & header::counts_are_good(book)))
 }
 
-fn lines_are_good(book: &[u8]) -> bool
-    requires { ⌜ 0 < guideOf (now book) .lines ⌝ }
-    ensures { λ r. ⌜ r ≡ run (linesRule (guideOf (now (book .entry)))) ⌝ }
-{
-    every::every(book, Each::Line, 0, 1, layout::lines(book))
-}
-
-fn codes_are_good(book: &[u8]) -> bool
-    requires { ⌜ 0 < guideOf (now book) .lines ⌝ }
-    ensures { λ r. ⌜ r ≡ run (codesRule (guideOf (now (book .entry)))) ⌝ }
-{
-    every::every(book, Each::Code, 0, 0, layout::codes(book))
-}
-
-fn fields_are_good(book: &[u8]) -> bool
-    requires { ⌜ 0 < guideOf (now book) .lines ⌝ }
-    ensures { λ r. ⌜ r ≡ run (fieldsRule (guideOf (now (book .entry)))) ⌝ }
-{
-    every::every(book, Each::Field, 0, 0, layout::fields(book))
-}
-
-fn identifiers_are_good(book: &[u8]) -> bool
-    requires { ⌜ 0 < guideOf (now book) .lines ⌝ }
-    ensures { λ r. ⌜ r ≡ run (identifiersRule (guideOf (now (book .entry)))) ⌝ }
-{
-    every::every(book, Each::Identifier, 0, 0, layout::identifiers(book))
-}
-
-fn rows_are_good(book: &[u8]) -> bool
-    requires { ⌜ Small (guideOf (now book)) ⌝ }
-    ensures { λ r. ⌜ r ≡ run (rowsRule (guideOf (now (book .entry)))) ⌝ }
-{
-    every::every(
-        book,
-        Each::Row,
-        0,
-        0,
-        layout::identifiers(book) * layout::lines(book),
-    )
-}
-
 fn records_are_good(book: &[u8]) -> bool
     requires { ⌜ Small (guideOf (now book)) ⌝ }
     ensures { λ r. ⌜ r ≡ run (recordsRule (guideOf (now (book .entry)))) ⌝ }
 {
-    if !lines_are_good(book) {
+    if !every::every(book, Each::Line, 0, 1, layout::lines(book)) {
         return false;
     }
-    if !codes_are_good(book) {
+    if !every::every(book, Each::Code, 0, 0, layout::codes(book)) {
         return false;
     }
-    if !fields_are_good(book) {
+    if !every::every(book, Each::Field, 0, 0, layout::fields(book)) {
         return false;
     }
-    if !identifiers_are_good(book) {
+    if !every::every(book, Each::Identifier, 0, 0, layout::identifiers(book)) {
         return false;
     }
-    rows_are_good(book)
-}
-
-fn all_structures_are_good(book: &[u8]) -> bool
-    requires { ⌜ 0 < guideOf (now book) .lines ⌝ }
-    ensures { λ r. ⌜ r ≡ run (structuresRule (guideOf (now (book .entry)))) ⌝ }
-{
-    structures_are_good(book, 1, layout::lines(book))
+    let rows = layout::identifiers(book) * layout::lines(book);
+    every::every(book, Each::Row, 0, 0, rows)
 }
 
 fn frame_is_good(book: &[u8]) -> bool
@@ -167,7 +114,7 @@ fn frame_is_good(book: &[u8]) -> bool
 {
     structure::has_frames(book)
         & (structure::has_carrier(book)
-            & (all_structures_are_good(book) & homes::homes_are_good(book)))
+            & (structures_are_good(book, 1, layout::lines(book)) & homes::homes_are_good(book)))
 }
 
 // 01, number 1: 0 for a good book, 1 for any other bytes.

@@ -1,9 +1,9 @@
 // Every number of a range, for the rules that hold no loop of their own.
 ghost use mathlib.Core.Path.{_≡_};
 ghost use Prim.Native.Nat.{_+_, _≤_, _<_, _^_};
-ghost use Rattle.book.specs.Rule.{run, every};
-ghost use Rattle.book.specs.Guide.{guideOf};
-ghost use Rattle.book.specs.Each.{ruleFor};
+ghost use Rattle.book.specs.meaning.Rule.{run, every};
+ghost use Rattle.book.specs.meaning.Guide.{guideOf};
+ghost use Rattle.book.specs.method.Each.{ruleFor};
 use crate::codes;
 use crate::fields;
 use crate::identifiers;

@@ -1,67 +1,79 @@
 // The header's rules: they come first, so that no later rule meets counts that the book has no room for.
 ghost use mathlib.Core.Path.{_≡_};
-ghost use Prim.Native.Nat.{_+_, _*_, _<_, _^_};
-ghost use Rattle.book.specs.Rule.{run};
-ghost use Rattle.book.specs.Guide.{guideOf};
-ghost use Rattle.book.specs.GoodBook.{editionRule, blocksRule, lengthRule, countsRule, codesFrom, fieldsFrom, identifiersFrom, rowsFrom};
+ghost use Prim.Native.Nat.{_<_, _^_};
+ghost use Rattle.book.specs.meaning.Numbers.{u16At};
+ghost use Rattle.book.specs.meaning.Rule.{run, _≐_};
+ghost use Rattle.book.specs.method.Sizes.{BlocksOf};
+ghost use Rattle.book.specs.meaning.GoodBook.{editionRule, blocksRule, lengthRule, countsRule};
+use crate::edition;
+use crate::head;
 use crate::layout;
 use crate::numbers;
 
 pub fn edition_is_good(book: &[u8]) -> bool
     ensures { λ r. ⌜ r ≡ run (editionRule (now (book .entry))) ⌝ }
 {
-    (numbers::u16_at(book, 0) == 1) & (numbers::u16_at(book, 26) == 0)
+    let edition = edition::edition_of(book);
+    (numbers::u16_at(book, head::EDITION) == edition.number)
+        & (numbers::u16_at(book, head::LAST) == 0)
 }
 
-fn codes_from(book: &[u8]) -> u32
-    ensures { λ r. ⌜ (r ≡ codesFrom (now (book .entry))) × (r < 2 ^ 21) ⌝ }
-{
-    28 + 20 * layout::lines(book)
+// Where each block but the first begins, and where the last one ends.
+struct Blocks {
+    codes: usize,
+    fields: usize,
+    identifiers: usize,
+    rows: usize,
+    end: usize,
 }
 
-fn fields_from(book: &[u8]) -> u32
-    ensures { λ r. ⌜ (r ≡ fieldsFrom (now (book .entry))) × (r < 2 ^ 22) ⌝ }
+// Each block lies behind the one before it. Computed wide: the end may be far more than a book's length can say.
+fn blocks_of(book: &[u8]) -> Blocks
+    ensures { λ r. ⌜ BlocksOf (now (book .entry)) r ⌝ }
 {
-    codes_from(book) + 8 * layout::codes(book)
+    let edition = edition::edition_of(book);
+    let lines = layout::lines(book) as usize;
+    let count = layout::identifiers(book) as usize;
+    let codes = numbers::behind(edition.header as usize, edition.line, lines);
+    let fields = numbers::behind(codes, edition.code, layout::codes(book) as usize);
+    let identifiers = numbers::behind(fields, edition.field, layout::fields(book) as usize);
+    let rows = numbers::behind(identifiers, edition.identifier, count);
+    let end = numbers::behind(rows, edition.row, count * lines);
+    Blocks {
+        codes,
+        fields,
+        identifiers,
+        rows,
+        end,
+    }
 }
 
-fn identifiers_from(book: &[u8]) -> u32
-    ensures { λ r. ⌜ (r ≡ identifiersFrom (now (book .entry))) × (r < 2 ^ 23) ⌝ }
+// Does the header give this offset at a place of its own?
+fn gives(book: &[u8], place: usize, offset: usize) -> bool
+    requires { ⌜ place < 2 ^ 60 ⌝ }
+    ensures { λ r. ⌜ r ≡ run (u16At (now (book .entry)) place ≐ offset) ⌝ }
 {
-    fields_from(book) + 12 * layout::fields(book)
-}
-
-fn rows_from(book: &[u8]) -> u32
-    ensures { λ r. ⌜ (r ≡ rowsFrom (now (book .entry))) × (r < 2 ^ 24) ⌝ }
-{
-    identifiers_from(book) + 8 * layout::identifiers(book)
+    numbers::u16_at(book, place) as usize == offset
 }
 
 pub fn blocks_are_good(book: &[u8]) -> bool
     ensures { λ r. ⌜ r ≡ run (blocksRule (now (book .entry))) ⌝ }
 {
-    (numbers::u16_at(book, 6) == 28)
-        & ((numbers::u16_at(book, 10) == codes_from(book))
-            & ((numbers::u16_at(book, 14) == fields_from(book))
-                & ((numbers::u16_at(book, 18) == identifiers_from(book))
-                    & (numbers::u16_at(book, 20) == rows_from(book)))))
+    let edition = edition::edition_of(book);
+    let blocks = blocks_of(book);
+    gives(book, head::LINES_OFFSET, edition.header as usize)
+        & (gives(book, head::CODES_OFFSET, blocks.codes)
+            & (gives(book, head::FIELDS_OFFSET, blocks.fields)
+                & (gives(book, head::IDENTIFIERS_OFFSET, blocks.identifiers)
+                    & gives(book, head::ROWS_OFFSET, blocks.rows))))
 }
 
-// One row for each Prüfidentifikator and line: more than 32 bits can hold.
-fn row_count(identifiers: u32, lines: u32) -> usize
-    requires { ⌜ (identifiers < 65536) × (lines < 65536) ⌝ }
-    ensures { λ r. ⌜ (r ≡ identifiers * lines) × (r < 2 ^ 32) ⌝ }
-{
-    (identifiers as usize) * (lines as usize)
-}
-
-// Computed wide: the sum may be far more than a book's length can say.
 pub fn length_is_good(book: &[u8]) -> bool
     ensures { λ r. ⌜ r ≡ run (lengthRule (now (book .entry))) ⌝ }
 {
-    let rows = row_count(layout::identifiers(book), layout::lines(book));
-    let end = rows_from(book) as usize + 8 * rows;
-    (numbers::u16_at(book, 2) as usize == book.len()) & (end == book.len())
+    let length = book.len();
+    let blocks = blocks_of(book);
+    (length <= 65535) & (gives(book, head::LENGTH, length) & (blocks.end == length))
 }
 
 pub fn counts_are_good(book: &[u8]) -> bool

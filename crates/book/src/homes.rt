@@ -3,16 +3,17 @@
 // the book: each line is paid with the code count, however many lines share its tag.
 ghost use mathlib.Core.Path.{_≡_};
 ghost use Prim.Native.Nat.{_≤_};
-ghost use Rattle.book.specs.Rule.{run};
-ghost use Rattle.book.specs.Guide.{guideOf};
-ghost use Rattle.book.specs.GoodBook.{sameTagRule, samePlaceRule, toldApartRule, pairRule};
-ghost use Rattle.book.specs.Each.{CodesWithin, Within, PassedTo, homeRule, homesRule};
-ghost use Rattle.book.specs.Tables.{Numbered, Marked};
+ghost use Rattle.book.specs.meaning.Rule.{run, every};
+ghost use Rattle.book.specs.meaning.Guide.{guideOf};
+ghost use Rattle.book.specs.meaning.GoodBook.{sameTagRule, samePlaceRule, notAmongRule, pairRule};
+ghost use Rattle.book.specs.method.Each.{CodesWithin, Within, PassedTo, homeRule, homesRule};
+ghost use Rattle.book.specs.method.Tables.{Numbered, Marked};
 use crate::layout;
 use crate::numbering;
 use crate::numbering::MOST_CODES;
 use crate::numbering::Marks;
 use crate::numbering::Numbers;
+use crate::words::KIND_SEGMENT;
 
 // Which numbers the line's codes have: 1 at these, 0 at the others.
 fn marks_of(book: &[u8], numbers: &Numbers, line: u32) -> Marks
@@ -35,8 +36,9 @@ fn marks_of(book: &[u8], numbers: &Numbers, line: u32) -> Marks
 fn have_same_tag(book: &[u8], line: u32, other: u32) -> bool
     ensures { λ r. ⌜ r ≡ run (sameTagRule (guideOf (now (book .entry))) line other) ⌝ }
 {
-    (layout::kind(book, line) == 1)
-        & ((layout::kind(book, other) == 1) & (layout::tag(book, line) == layout::tag(book, other)))
+    (layout::kind(book, line) == KIND_SEGMENT)
+        & ((layout::kind(book, other) == KIND_SEGMENT)
+            & (layout::tag(book, line) == layout::tag(book, other)))
 }
 
 fn have_same_place(book: &[u8], line: u32, other: u32) -> bool
@@ -49,14 +51,11 @@ fn have_same_place(book: &[u8], line: u32, other: u32) -> bool
             & (component == layout::selector_component(book, other)))
 }
 
-// The marks are those of the other line's codes.
-fn are_told_apart(book: &[u8], numbers: &Numbers, marks: &Marks, line: u32, other: u32) -> bool
+// None of the line's codes is the other's, whose codes are marked.
+fn has_no_code_of(book: &[u8], numbers: &Numbers, marks: &Marks, line: u32, other: u32) -> bool
     requires { ⌜ (Marked (guideOf (now book)) (now numbers) (now marks) other) × (CodesWithin (guideOf (now book)) line) ⌝ }
-    ensures { λ r. ⌜ r ≡ run (toldApartRule (guideOf (now (book .entry))) line other) ⌝ }
+    ensures { λ r. ⌜ r ≡ run (every (guideOf (now (book .entry)) .firstCode line) (guideOf (now (book .entry)) .codeCount line) (notAmongRule (guideOf (now (book .entry))) other)) ⌝ }
 {
-    if !have_same_place(book, line, other) {
-        return false;
-    }
     let mut code = layout::first_code(book, line);
     let mut left = layout::code_count(book, line);
     while left > 0 {
@@ -78,7 +77,10 @@ fn is_pair_good(book: &[u8], numbers: &Numbers, marks: &Marks, line: u32, other:
     if !have_same_tag(book, line, other) {
         return true;
     }
-    are_told_apart(book, numbers, marks, line, other)
+    if !have_same_place(book, line, other) {
+        return false;
+    }
+    has_no_code_of(book, numbers, marks, line, other)
 }
 
 // The first line before this one that has its tag; this one if there is none. Few lines share a tag, and no others need marks.

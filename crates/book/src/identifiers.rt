@@ -1,9 +1,9 @@
 // The rules of one Prüfidentifikator.
 ghost use mathlib.Core.Path.{_≡_};
 ghost use Prim.Native.Nat.{_<_, _^_};
-ghost use Rattle.book.specs.Rule.{run, _and_};
-ghost use Rattle.book.specs.Guide.{guideOf};
-ghost use Rattle.book.specs.GoodBook.{digit, identifierFormRule, identifierNumber, identifierRises, identifierRule};
+ghost use Rattle.book.specs.meaning.Rule.{run, _and_};
+ghost use Rattle.book.specs.meaning.Guide.{guideOf};
+ghost use Rattle.book.specs.meaning.GoodBook.{digit, identifierFormRule, identifierNumber, identifierRises, identifierRule};
 use crate::layout;
 use crate::tests;
 

@@ -1,41 +1,56 @@
-// Every number in a book by name: no offset and no record size stands anywhere else. An accessor reads the header for where its
-// block lies, and so which edition it reads; it takes numbers of 32 bits, so that no offset can wrap. Past the end all is 0.
+// Every number in a book by name. Where it stands in its record is said here alone; how long a record is, in edition.rt; where the
+// header's numbers stand, in head.rt. An accessor reads the header for where its block lies, and for the edition that it reads; it
+// takes numbers of 32 bits, so that no offset can wrap. Past the end all is 0.
 ghost use mathlib.Core.Path.{_≡_};
 ghost use Prim.Native.Nat.{_+_, _<_, _^_};
-ghost use Rattle.book.specs.Numbers.{byteAt, u16At, u32At};
-ghost use Rattle.book.specs.Guide.{guideOf, lineAt, codeAt, fieldAt, identifierAt, rowAt};
+ghost use Rattle.book.specs.meaning.Numbers.{byteAt, u16At, u32At};
+ghost use Rattle.book.specs.meaning.Guide.{guideOf, lineAt, codeAt, fieldAt, identifierAt, rowAt};
+use crate::edition;
+use crate::head;
 use crate::numbers;
+use reading::bytes;
 
 // ---- where a record begins
 
+// Lines count from 1.
 fn line_at(book: &[u8], line: u32) -> usize
-    ensures { λ r. ⌜ (r ≡ lineAt (now (book .entry)) line) × (r < 2 ^ 37) ⌝ }
+    ensures { λ r. ⌜ (r ≡ lineAt (now (book .entry)) line) × (r < 2 ^ 41) ⌝ }
 {
-    8 + 20 * (line as usize)
+    let edition = edition::edition_of(book);
+    let size = edition.line;
+    numbers::behind(edition.header as usize, size, line as usize) - size as usize
 }
 
 fn code_at(book: &[u8], code: u32) -> usize
-    ensures { λ r. ⌜ (r ≡ codeAt (now (book .entry)) code) × (r < 2 ^ 37) ⌝ }
+    ensures { λ r. ⌜ (r ≡ codeAt (now (book .entry)) code) × (r < 2 ^ 41) ⌝ }
 {
-    numbers::u16_at(book, 10) as usize + 8 * (code as usize)
+    let edition = edition::edition_of(book);
+    let from = numbers::u16_at(book, head::CODES_OFFSET) as usize;
+    numbers::behind(from, edition.code, code as usize)
 }
 
 fn field_at(book: &[u8], field: u32) -> usize
-    ensures { λ r. ⌜ (r ≡ fieldAt (now (book .entry)) field) × (r < 2 ^ 37) ⌝ }
+    ensures { λ r. ⌜ (r ≡ fieldAt (now (book .entry)) field) × (r < 2 ^ 41) ⌝ }
 {
-    numbers::u16_at(book, 14) as usize + 12 * (field as usize)
+    let edition = edition::edition_of(book);
+    let from = numbers::u16_at(book, head::FIELDS_OFFSET) as usize;
+    numbers::behind(from, edition.field, field as usize)
 }
 
 fn identifier_at(book: &[u8], identifier: u32) -> usize
-    ensures { λ r. ⌜ (r ≡ identifierAt (now (book .entry)) identifier) × (r < 2 ^ 37) ⌝ }
+    ensures { λ r. ⌜ (r ≡ identifierAt (now (book .entry)) identifier) × (r < 2 ^ 41) ⌝ }
 {
-    numbers::u16_at(book, 18) as usize + 8 * (identifier as usize)
+    let edition = edition::edition_of(book);
+    let from = numbers::u16_at(book, head::IDENTIFIERS_OFFSET) as usize;
+    numbers::behind(from, edition.identifier, identifier as usize)
 }
 
 fn row_at(book: &[u8], row: u32) -> usize
-    ensures { λ r. ⌜ (r ≡ rowAt (now (book .entry)) row) × (r < 2 ^ 37) ⌝ }
+    ensures { λ r. ⌜ (r ≡ rowAt (now (book .entry)) row) × (r < 2 ^ 41) ⌝ }
 {
-    numbers::u16_at(book, 20) as usize + 8 * (row as usize)
+    let edition = edition::edition_of(book);
+    let from = numbers::u16_at(book, head::ROWS_OFFSET) as usize;
+    numbers::behind(from, edition.row, row as usize)
 }
 
 // ---- a number of a record
@@ -44,7 +59,7 @@ fn line_byte_at(book: &[u8], line: u32, offset: usize) -> u32
     requires { ⌜ offset < 2 ^ 34 ⌝ }
     ensures { λ r. ⌜ (r ≡ byteAt (now (book .entry)) (lineAt (now (book .entry)) line + offset)) × (r < 256) ⌝ }
 {
-    numbers::byte_at(book, line_at(book, line) + offset)
+    bytes::byte_at(book, line_at(book, line) + offset)
 }
 
 fn line_u16_at(book: &[u8], line: u32, offset: usize) -> u32
@@ -54,18 +69,11 @@ fn line_u16_at(book: &[u8], line: u32, offset: usize) -> u32
     numbers::u16_at(book, line_at(book, line) + offset)
 }
 
-fn line_u32_at(book: &[u8], line: u32, offset: usize) -> u32
-    requires { ⌜ offset < 2 ^ 34 ⌝ }
-    ensures { λ r. ⌜ (r ≡ u32At (now (book .entry)) (lineAt (now (book .entry)) line + offset)) × (r < 2 ^ 32) ⌝ }
-{
-    numbers::u32_at(book, line_at(book, line) + offset)
-}
-
 fn code_byte_at(book: &[u8], code: u32, offset: usize) -> u32
     requires { ⌜ offset < 2 ^ 34 ⌝ }
     ensures { λ r. ⌜ (r ≡ byteAt (now (book .entry)) (codeAt (now (book .entry)) code + offset)) × (r < 256) ⌝ }
 {
-    numbers::byte_at(book, code_at(book, code) + offset)
+    bytes::byte_at(book, code_at(book, code) + offset)
 }
 
 fn code_u32_at(book: &[u8], code: u32, offset: usize) -> u32
@@ -79,7 +87,7 @@ fn field_byte_at(book: &[u8], field: u32, offset: usize) -> u32
     requires { ⌜ offset < 2 ^ 34 ⌝ }
     ensures { λ r. ⌜ (r ≡ byteAt (now (book .entry)) (fieldAt (now (book .entry)) field + offset)) × (r < 256) ⌝ }
 {
-    numbers::byte_at(book, field_at(book, field) + offset)
+    bytes::byte_at(book, field_at(book, field) + offset)
 }
 
 fn field_u16_at(book: &[u8], field: u32, offset: usize) -> u32
@@ -89,18 +97,11 @@ fn field_u16_at(book: &[u8], field: u32, offset: usize) -> u32
     numbers::u16_at(book, field_at(book, field) + offset)
 }
 
-fn identifier_byte_at(book: &[u8], identifier: u32, offset: usize) -> u32
-    requires { ⌜ offset < 2 ^ 34 ⌝ }
-    ensures { λ r. ⌜ (r ≡ byteAt (now (book .entry)) (identifierAt (now (book .entry)) identifier + offset)) × (r < 256) ⌝ }
-{
-    numbers::byte_at(book, identifier_at(book, identifier) + offset)
-}
-
 fn row_byte_at(book: &[u8], row: u32, offset: usize) -> u32
     requires { ⌜ offset < 2 ^ 34 ⌝ }
     ensures { λ r. ⌜ (r ≡ byteAt (now (book .entry)) (rowAt (now (book .entry)) row + offset)) × (r < 256) ⌝ }
 {
-    numbers::byte_at(book, row_at(book, row) + offset)
+    bytes::byte_at(book, row_at(book, row) + offset)
 }
 
 // ---- how many there are
@@ -108,37 +109,37 @@ fn row_byte_at(book: &[u8], row: u32, offset: usize) -> u32
 pub fn lines(book: &[u8]) -> u32
     ensures { λ r. ⌜ (r ≡ guideOf (now (book .entry)) .lines) × (r < 65536) ⌝ }
 {
-    numbers::u16_at(book, 4)
+    numbers::u16_at(book, head::LINES)
 }
 
 pub fn codes(book: &[u8]) -> u32
     ensures { λ r. ⌜ (r ≡ guideOf (now (book .entry)) .codes) × (r < 65536) ⌝ }
 {
-    numbers::u16_at(book, 8)
+    numbers::u16_at(book, head::CODES)
 }
 
 pub fn fields(book: &[u8]) -> u32
     ensures { λ r. ⌜ (r ≡ guideOf (now (book .entry)) .fields) × (r < 65536) ⌝ }
 {
-    numbers::u16_at(book, 12)
+    numbers::u16_at(book, head::FIELDS)
 }
 
 pub fn identifiers(book: &[u8]) -> u32
     ensures { λ r. ⌜ (r ≡ guideOf (now (book .entry)) .identifiers) × (r < 65536) ⌝ }
 {
-    numbers::u16_at(book, 16)
+    numbers::u16_at(book, head::IDENTIFIERS)
 }
 
 pub fn conditions(book: &[u8]) -> u32
     ensures { λ r. ⌜ (r ≡ guideOf (now (book .entry)) .conditions) × (r < 65536) ⌝ }
 {
-    numbers::u16_at(book, 22)
+    numbers::u16_at(book, head::CONDITIONS)
 }
 
 pub fn carrier(book: &[u8]) -> u32
     ensures { λ r. ⌜ (r ≡ guideOf (now (book .entry)) .carrier) × (r < 65536) ⌝ }
 {
-    numbers::u16_at(book, 24)
+    numbers::u16_at(book, head::CARRIER)
 }
 
 // ---- all by name
@@ -201,7 +202,7 @@ pub fn code_count(book: &[u8], line: u32) -> u32
 pub fn maximum(book: &[u8], line: u32) -> u32
     ensures { λ r. ⌜ (r ≡ guideOf (now (book .entry)) .maximum line) × (r < 2 ^ 32) ⌝ }
 {
-    line_u32_at(book, line, 12)
+    numbers::u32_at(book, line_at(book, line) + 12)
 }
 
 pub fn first_field(book: &[u8], line: u32) -> u32
@@ -297,7 +298,7 @@ pub fn field_end(book: &[u8], field: u32) -> u32
 pub fn identifier_byte(book: &[u8], identifier: u32, byte: u32) -> u32
     ensures { λ r. ⌜ (r ≡ guideOf (now (book .entry)) .identifierByte identifier byte) × (r < 256) ⌝ }
 {
-    identifier_byte_at(book, identifier, 0 + byte as usize)
+    bytes::byte_at(book, identifier_at(book, identifier) + byte as usize)
 }
 
 pub fn mode(book: &[u8], row: u32) -> u32

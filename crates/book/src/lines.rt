@@ -1,18 +1,22 @@
 // The rules of one line by itself.
 ghost use mathlib.Core.Path.{_≡_};
-ghost use Prim.Native.Nat.{_<_, _^_};
-ghost use Rattle.book.specs.Rule.{run, _and_};
-ghost use Rattle.book.specs.Guide.{guideOf};
-ghost use Rattle.book.specs.GoodBook.{kindRule, depthRule, tagByteRule, tagRule, requiredRule, selectorRule, codeRangeRule, maximumRule, fieldRangeRule, groupRule, lineRule};
+ghost use Rattle.book.specs.meaning.Rule.{run, _and_};
+ghost use Rattle.book.specs.meaning.Guide.{guideOf};
+ghost use Rattle.book.specs.meaning.GoodBook.{kindRule, depthRule, tagByteRule, tagRule, requiredRule, selectorRule, codeRangeRule, maximumRule, fieldRangeRule, groupRule, lineRule};
 use crate::layout;
 use crate::tests;
+use crate::words::KIND_GROUP;
+use crate::words::KIND_SEGMENT;
 
 fn tag_byte_is_good(book: &[u8], line: u32, byte: u32) -> bool
     ensures { λ r. ⌜ r ≡ run (tagByteRule (guideOf (now (book .entry))) line byte) ⌝ }
 {
     let kind = layout::kind(book, line);
-    tests::implies(kind == 1, tests::is_capital(byte) | tests::is_digit(byte))
-        & tests::implies(kind == 2, byte == 0)
+    tests::implies(
+        kind == KIND_SEGMENT,
+        tests::is_capital(byte) | tests::is_digit(byte),
+    )
+        & tests::implies(kind == KIND_GROUP, byte == 0)
 }
 
 fn tag_is_good(book: &[u8], line: u32) -> bool
@@ -23,23 +27,12 @@ fn tag_is_good(book: &[u8], line: u32) -> bool
             & tag_byte_is_good(book, line, layout::tag_byte(book, line, 2)))
 }
 
-fn kind_is_good(book: &[u8], line: u32) -> bool
-    ensures { λ r. ⌜ r ≡ run (kindRule (guideOf (now (book .entry))) line) ⌝ }
-{
-    let kind = layout::kind(book, line);
-    (kind == 1) | (kind == 2)
-}
-
-fn depth_is_good(book: &[u8], line: u32) -> bool
-    ensures { λ r. ⌜ r ≡ run (depthRule (guideOf (now (book .entry))) line) ⌝ }
-{
-    layout::depth(book, line) <= 7
-}
-
 fn head_is_good(book: &[u8], line: u32) -> bool
     ensures { λ r. ⌜ r ≡ run (kindRule (guideOf (now (book .entry))) line and depthRule (guideOf (now (book .entry))) line and tagRule (guideOf (now (book .entry))) line) ⌝ }
 {
-    kind_is_good(book, line) & (depth_is_good(book, line) & tag_is_good(book, line))
+    let kind = layout::kind(book, line);
+    ((kind == KIND_SEGMENT) | (kind == KIND_GROUP))
+        & ((layout::depth(book, line) <= 7) & tag_is_good(book, line))
 }
 
 fn selector_is_good(book: &[u8], line: u32) -> bool
@@ -48,7 +41,7 @@ fn selector_is_good(book: &[u8], line: u32) -> bool
     let element = layout::selector_element(book, line);
     let component = layout::selector_component(book, line);
     let codes = layout::code_count(book, line);
-    ((1 <= element) & ((1 <= component) & (1 <= codes)))
+    (tests::is_between(1, element, 255) & (tests::is_between(1, component, 255) & (1 <= codes)))
         | ((element == 0) & ((component == 0) & (codes == 0)))
 }
 
@@ -69,7 +62,7 @@ fn fields_are_good(book: &[u8], line: u32) -> bool
     let plain = (layout::code_count(book, line) == 0) & (count == 0);
     tests::is_between(1, layout::maximum(book, line), 999999)
         & (tests::is_range(first, count, layout::fields(book))
-            & tests::implies(layout::kind(book, line) == 2, plain))
+            & tests::implies(layout::kind(book, line) == KIND_GROUP, plain))
 }
 
 pub fn line_is_good(book: &[u8], line: u32) -> bool

@@ -1,11 +1,17 @@
 // The rules of one row.
 ghost use mathlib.Core.Path.{_≡_};
-ghost use Prim.Native.Nat.{_<_, _^_};
-ghost use Rattle.book.specs.Rule.{run};
-ghost use Rattle.book.specs.Guide.{guideOf};
-ghost use Rattle.book.specs.GoodBook.{literalRule, nextLiteralRule, expressionRule, noExpressionRule, modeRule, rowEndRule, requiredRowRule, rowRule};
+ghost use Prim.Native.Nat.{_<_};
+ghost use Rattle.book.specs.meaning.Rule.{run};
+ghost use Rattle.book.specs.meaning.Guide.{guideOf};
+ghost use Rattle.book.specs.meaning.GoodBook.{literalRule, nextLiteralRule, expressionRule, noExpressionRule, modeRule, requiredRowRule, rowRule};
 use crate::layout;
 use crate::tests;
+use crate::words::JOINT_ALL;
+use crate::words::JOINT_ANY;
+use crate::words::MODE_MAY;
+use crate::words::MODE_MAY_IF;
+use crate::words::MODE_MUST;
+use crate::words::MODE_MUST_IF;
 
 fn is_literal(book: &[u8], byte: u32) -> bool
     ensures { λ r. ⌜ r ≡ run (literalRule (guideOf (now (book .entry))) byte) ⌝ }
@@ -32,8 +38,8 @@ fn expression_is_good(book: &[u8], row: u32) -> bool
     is_literal(book, first)
         & (is_next_literal(book, first, second)
             & (is_next_literal(book, second, third)
-                & (tests::is_between(1, joint, 2)
-                    & tests::implies(second == 0, (third == 0) & (joint == 1)))))
+                & (((joint == JOINT_ALL) | (joint == JOINT_ANY))
+                    & tests::implies(second == 0, (third == 0) & (joint == JOINT_ALL)))))
 }
 
 fn has_no_expression(book: &[u8], row: u32) -> bool
@@ -48,16 +54,9 @@ fn mode_is_good(book: &[u8], row: u32) -> bool
     ensures { λ r. ⌜ r ≡ run (modeRule (guideOf (now (book .entry))) row) ⌝ }
 {
     let mode = layout::mode(book, row);
-    (mode <= 4)
-        & (tests::implies(mode <= 2, has_no_expression(book, row))
-            & tests::implies(3 <= mode, expression_is_good(book, row)))
-}
-
-fn end_is_good(book: &[u8], row: u32) -> bool
-    ensures { λ r. ⌜ r ≡ run (rowEndRule (guideOf (now (book .entry))) row) ⌝ }
-{
-    (layout::row_end(book, row, 0) == 0)
-        & ((layout::row_end(book, row, 1) == 0) & (layout::row_end(book, row, 2) == 0))
+    (mode <= MODE_MAY_IF)
+        & (tests::implies(mode <= MODE_MAY, has_no_expression(book, row))
+            & tests::implies(MODE_MUST_IF <= mode, expression_is_good(book, row)))
 }
 
 // Lines run fastest.
@@ -68,7 +67,7 @@ fn suits_required_line(book: &[u8], row: u32) -> bool
     let line = row % layout::lines(book) + 1;
     tests::implies(
         layout::required(book, line) == 1,
-        layout::mode(book, row) == 1,
+        layout::mode(book, row) == MODE_MUST,
     )
 }
 
@@ -76,5 +75,7 @@ pub fn row_is_good(book: &[u8], row: u32) -> bool
     requires { ⌜ 0 < guideOf (now book) .lines ⌝ }
     ensures { λ r. ⌜ r ≡ run (rowRule (guideOf (now (book .entry))) row) ⌝ }
 {
-    mode_is_good(book, row) & (end_is_good(book, row) & suits_required_line(book, row))
+    let end = (layout::row_end(book, row, 0) == 0)
+        & ((layout::row_end(book, row, 1) == 0) & (layout::row_end(book, row, 2) == 0));
+    mode_is_good(book, row) & (end & suits_required_line(book, row))
 }

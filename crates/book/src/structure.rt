@@ -1,16 +1,15 @@
 // The rules of one line among the others, but for its home.
 ghost use mathlib.Core.Path.{_≡_};
 ghost use Prim.Native.Nat.{_+_, _<_, _^_};
-ghost use Rattle.book.specs.Rule.{run, _and_, _≐_};
-ghost use Rattle.book.specs.Guide.{guideOf};
-ghost use Rattle.book.specs.GoodBook.{segment, fieldPlace, fieldRises, triggerRule, fallRule, frameRule, framesRule, onlyFramesRule, carrierRule, deeperRule};
+ghost use Rattle.book.specs.meaning.Rule.{run};
+ghost use Rattle.book.specs.meaning.Guide.{guideOf};
+ghost use Rattle.book.specs.meaning.GoodBook.{fieldPlace, fieldRises, triggerRule, fallRule, frameRule, framesRule, onlyFramesRule, carrierRule, deeperRule};
 use crate::layout;
 use crate::tests;
-
-// The tags of the first line and the last, first byte lowest.
-const TAG_UNH: u32 = 0x484e55;
-
-const TAG_UNT: u32 = 0x544e55;
+use crate::words::KIND_GROUP;
+use crate::words::KIND_SEGMENT;
+use reading::tag::UNH;
+use reading::tag::UNT;
 
 fn field_place(book: &[u8], field: u32) -> u32
     ensures { λ r. ⌜ (r ≡ fieldPlace (guideOf (now (book .entry))) field) × (r < 2 ^ 16) ⌝ }
@@ -25,24 +24,18 @@ pub fn field_rises(book: &[u8], field: u32) -> bool
     field_place(book, field) + 1 <= field_place(book, field + 1)
 }
 
-fn is_trigger(book: &[u8], line: u32, depth: u32) -> bool
-    requires { ⌜ (line < 2 ^ 18) × (depth < 256) ⌝ }
-    ensures { λ r. ⌜ r ≡ run (segment (guideOf (now (book .entry))) line and (guideOf (now (book .entry))) .depth line ≐ depth + 1 and (guideOf (now (book .entry))) .required line ≐ 1 and (guideOf (now (book .entry))) .maximum line ≐ 1) ⌝ }
-{
-    (layout::kind(book, line) == 1)
-        & ((layout::depth(book, line) == depth + 1)
-            & ((layout::required(book, line) == 1) & (layout::maximum(book, line) == 1)))
-}
-
 pub fn has_trigger(book: &[u8], line: u32) -> bool
     requires { ⌜ line < 2 ^ 17 ⌝ }
     ensures { λ r. ⌜ r ≡ run (triggerRule (guideOf (now (book .entry))) line) ⌝ }
 {
     let next = line + 1;
     let depth = layout::depth(book, line);
+    let required = (layout::required(book, next) == 1) & (layout::maximum(book, next) == 1);
+    let trigger = (layout::kind(book, next) == KIND_SEGMENT)
+        & ((layout::depth(book, next) == depth + 1) & required);
     tests::implies(
-        layout::kind(book, line) == 2,
-        (next <= layout::lines(book)) & is_trigger(book, next, depth),
+        layout::kind(book, line) == KIND_GROUP,
+        (next <= layout::lines(book)) & trigger,
     )
 }
 
@@ -52,7 +45,7 @@ pub fn stays_or_falls(book: &[u8], line: u32) -> bool
 {
     let next = line + 1;
     tests::implies(
-        (layout::kind(book, line) == 1) & (next <= layout::lines(book)),
+        (layout::kind(book, line) == KIND_SEGMENT) & (next <= layout::lines(book)),
         layout::depth(book, next) <= layout::depth(book, line),
     )
 }
@@ -60,7 +53,7 @@ pub fn stays_or_falls(book: &[u8], line: u32) -> bool
 fn is_frame(book: &[u8], line: u32, tag: u32) -> bool
     ensures { λ r. ⌜ r ≡ run (frameRule (guideOf (now (book .entry))) line tag) ⌝ }
 {
-    (layout::kind(book, line) == 1)
+    (layout::kind(book, line) == KIND_SEGMENT)
         & ((layout::tag(book, line) == tag)
             & ((layout::depth(book, line) == 0)
                 & ((layout::required(book, line) == 1)
@@ -71,15 +64,14 @@ fn is_frame(book: &[u8], line: u32, tag: u32) -> bool
 pub fn has_frames(book: &[u8]) -> bool
     ensures { λ r. ⌜ r ≡ run (framesRule (guideOf (now (book .entry)))) ⌝ }
 {
-    is_frame(book, 1, TAG_UNH) & is_frame(book, layout::lines(book), TAG_UNT)
+    is_frame(book, 1, UNH) & is_frame(book, layout::lines(book), UNT)
 }
 
 pub fn is_no_other_frame(book: &[u8], line: u32) -> bool
     ensures { λ r. ⌜ r ≡ run (onlyFramesRule (guideOf (now (book .entry))) line) ⌝ }
 {
     let tag = layout::tag(book, line);
-    tests::implies(tag == TAG_UNH, line == 1)
-        & tests::implies(tag == TAG_UNT, line == layout::lines(book))
+    tests::implies(tag == UNH, line == 1) & tests::implies(tag == UNT, line == layout::lines(book))
 }
 
 pub fn has_carrier(book: &[u8]) -> bool
@@ -87,7 +79,7 @@ pub fn has_carrier(book: &[u8]) -> bool
 {
     let line = layout::carrier(book);
     tests::is_between(1, line, layout::lines(book))
-        & ((layout::kind(book, line) == 1)
+        & ((layout::kind(book, line) == KIND_SEGMENT)
             & ((layout::required(book, line) == 1) & (layout::maximum(book, line) == 1)))
 }
 

@@ -2,8 +2,8 @@
 ghost use mathlib.Core.Path.{_≡_};
 ghost use Prim.Native.Nat.{_<_, _^_};
 ghost use mathlib.Core.Bool.{not, _||_};
-ghost use Rattle.book.specs.Rule.{run};
-ghost use Rattle.book.specs.GoodBook.{between, digit, capital, small, rangeRule};
+ghost use Rattle.book.specs.meaning.Rule.{run};
+ghost use Rattle.book.specs.meaning.GoodBook.{between, digit, capital, small, rangeRule};
 
 pub fn is_between(least: u32, x: u32, most: u32) -> bool
     ensures { λ r. ⌜ r ≡ run (between least x most) ⌝ }

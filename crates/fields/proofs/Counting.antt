@@ -12,7 +12,9 @@ use lib.ListN.{length, getD, drop, drop-of-length-le}
 use lib.Seq.{drop-cons}
 use borrow.Author.Tests.{eq-eqb, ne-eqb, not-true, not-false}
 use Rattle.reading.specs.declared.service.Service.{Service}
-use Rattle.fields.specs.Number.{isDigit, minus, figures, startsDigit, afterDigits, isNone, areDigits, endsNumber, withoutSign, isNumber}
+use Rattle.reading.specs.meaning.Digit.{isDigit}
+use Rattle.fields.specs.meaning.Number.{minus, figures}
+use Rattle.fields.specs.method.Number.{startsDigit, afterDigits, isNone, areDigits, endsNumber, withoutSign, isNumber}
 
 module _ (bs : List ℕ) where
   -- ---- digits

@@ -10,16 +10,16 @@ use mathlib.Core.Logic.{dite, ⊎-elim}
 use lib.Dec.{eqb}
 use lib.ListN.{length, getD, take, drop, drop-of-length-le, length-drop, length-append}
 use lib.Seq.{drop-cons, take-suc, getD-drop, drop-drop}
-use Rattle.reading.specs.Service.{isData, mustRelease}
-use Rattle.reading.specs.Component.{valueFrom, keptOrReleased}
-use Rattle.reading.specs.Machine.{pick, kindOf}
+use Rattle.reading.specs.meaning.Service.{isData, mustRelease}
+use Rattle.reading.specs.meaning.Component.{valueFrom, keptOrReleased}
+use Rattle.reading.specs.method.Machine.{pick, kindOf}
 use Rattle.reading.specs.declared.service.Service.{Service}
 use Rattle.reading.specs.declared.bytes.Kind.{Kind}
 use Rattle.reading.specs.declared.bytes.Kind.the-variants.{Component, Element, Terminator, Release, Plain, Other}
 use Rattle.reading.proofs.Seeking.{unmarked}
-use Rattle.fields.specs.Parts.{Raw, Cut, pieces, addByte, addComponent, addElement, cutBy, cut, componentsIn, furtherIn, hasBytes, anyBytes}
+use Rattle.fields.specs.method.Parts.{Raw, Cut, pieces, addByte, addComponent, addElement, cutBy, cut, componentsIn, furtherIn, hasBytes, anyBytes}
 use Rattle.fields.specs.declared.parts.Part.{Part}
-use Rattle.fields.specs.Kept.{isRelease, isComponentMark, isElementMark, isMark, opensComponent, opensElement, elementsIn, rawIn, behindComponent, behindElement, furtherBehind, Reads, Ends}
+use Rattle.fields.specs.method.Kept.{isRelease, isComponentMark, isElementMark, isMark, opensComponent, opensElement, elementsIn, rawIn, behindComponent, behindElement, furtherBehind, Reads, Ends}
 
 -- ---- one byte
 

@@ -7,14 +7,15 @@ use mathlib.Core.Bool.{Bool, true, false, cond, not, _&&_, _||_}
 use lib.Dec.{eqb, leb}
 use lib.ListN.{length}
 use borrow.Author.Tests.{eq-eqb, ne-eqb, le-leb, lt-leb}
-use Rattle.book.specs.Guide.{Guide}
-use Rattle.placing.specs.Fitting.{isAnyCode}
-use Rattle.reading.specs.Component.{valueOf}
+use Rattle.book.specs.meaning.Guide.{Guide}
+use Rattle.placing.specs.method.Fitting.{isAnyCode}
+use Rattle.reading.specs.meaning.Component.{valueOf}
 use Rattle.reading.specs.declared.service.Service.{Service}
-use Rattle.fields.specs.Number.{minus, isNumber, figures}
-use Rattle.fields.specs.Parts.{Raw, hasBytes}
-use Rattle.fields.specs.Testing.{hasCode, fitsText, fitsNumber, fits, isMissing, isBroken}
-use Rattle.fields.specs.Kept.{Counts}
+use Rattle.fields.specs.meaning.Number.{minus, figures}
+use Rattle.fields.specs.method.Number.{isNumber}
+use Rattle.fields.specs.method.Parts.{Raw, hasBytes}
+use Rattle.fields.specs.method.Testing.{hasCode, fitsText, fitsNumber, fits, isMissing, isBroken}
+use Rattle.fields.specs.method.Kept.{Counts}
 
 pub bytes-none : (x : Raw) → length x ≡ 0 → hasBytes x ≡ false
 unfolding hasBytes

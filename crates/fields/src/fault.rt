@@ -2,9 +2,9 @@
 ghost use mathlib.Core.Path.{_≡_};
 ghost use Prim.Native.Nat.{_+_, _≤_};
 ghost use lib.ListN.{length, drop};
-ghost use Rattle.book.specs.Guide.{guideOf};
-ghost use Rattle.fields.specs.Testing.{testRest, faultAt, InReach};
-ghost use Rattle.fields.specs.Kept.{fieldsFrom};
+ghost use Rattle.book.specs.meaning.Guide.{guideOf};
+ghost use Rattle.fields.specs.method.Testing.{testRest, faultAt, InReach};
+ghost use Rattle.fields.specs.method.Kept.{fieldsFrom};
 use crate::element;
 use crate::element::Closing;
 use crate::field;

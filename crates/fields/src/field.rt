@@ -1,23 +1,28 @@
 // One field and the component that it names, as it is written.
 ghost use mathlib.Core.Path.{_≡_};
 ghost use lib.Dec.{leb};
-ghost use Rattle.book.specs.Guide.{guideOf};
-ghost use Rattle.fields.specs.Number.{figures};
-ghost use Rattle.fields.specs.Testing.{hasCode, fitsText, fitsNumber, fits, isMissing, isBroken};
-ghost use Rattle.fields.specs.Kept.{Counts};
+ghost use Rattle.book.specs.meaning.Guide.{guideOf};
+ghost use Rattle.fields.specs.meaning.Number.{figures};
+ghost use Rattle.fields.specs.method.Testing.{hasCode, fitsText, fitsNumber, fits, isMissing, isBroken};
+ghost use Rattle.fields.specs.method.Kept.{Counts};
 use crate::number;
 use book::layout;
+use book::words::FORM_NUMBER;
+use book::words::PRESENCE_EMPTY;
+use book::words::PRESENCE_MUST;
+use book::words::PRESENCE_WITH_ELEMENT;
 use placing::code;
 use reading::service::Service;
 
 fn has_code(book: &[u8], field: u32, part: &[u8]) -> bool
     ensures { λ r. ⌜ r ≡ hasCode (guideOf (now (book .entry))) field (now (part .entry)) ⌝ }
 {
-    let count = layout::value_count(book, field);
+    let count = layout::value_count(book, field) as u16;
     if count == 0 {
         return true;
     }
-    code::is_any_code(book, layout::first_value(book, field), count, part)
+    let first = layout::first_value(book, field) as u16;
+    code::is_any_code(book, first, count, part)
 }
 
 fn fits_text(service: Service, book: &[u8], field: u32, part: &[u8], releases: usize) -> bool
@@ -57,7 +62,7 @@ fn fits(service: Service, book: &[u8], field: u32, part: &[u8], releases: usize)
     requires { ⌜ Counts service (now part) releases ⌝ }
     ensures { λ r. ⌜ r ≡ fits service (guideOf (now (book .entry))) field (now (part .entry)) ⌝ }
 {
-    if layout::form(book, field) == 2 {
+    if layout::form(book, field) == FORM_NUMBER {
         return fits_number(service, book, field, part);
     }
     fits_text(service, book, field, part, releases)
@@ -68,10 +73,10 @@ pub fn is_missing(book: &[u8], some: bool, field: u32) -> bool
     ensures { λ r. ⌜ r ≡ isMissing (guideOf (now (book .entry))) some field ⌝ }
 {
     let presence = layout::presence(book, field);
-    if presence == 1 {
+    if presence == PRESENCE_MUST {
         return true;
     }
-    if presence == 3 {
+    if presence == PRESENCE_WITH_ELEMENT {
         return some;
     }
     false
@@ -91,7 +96,7 @@ pub fn is_broken(
     if part.len() == 0 {
         return is_missing(book, some, field);
     }
-    if layout::presence(book, field) == 0 {
+    if layout::presence(book, field) == PRESENCE_EMPTY {
         return true;
     }
     !fits(service, book, field, part, releases)

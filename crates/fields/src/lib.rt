@@ -9,6 +9,5 @@ mod passes;
 
 pub use fault::Fault;
 pub use fault::find_fault;
-pub use number::is_digit;
 pub use passes::FirstFault;
 pub use passes::test_fields;

@@ -5,25 +5,19 @@ ghost use mathlib.Core.Bool.{not, _||_};
 ghost use Prim.Native.Nat.{_≤_};
 ghost use lib.Dec.{eqb};
 ghost use lib.ListN.{length, drop};
-ghost use Rattle.fields.specs.Number.{minus, isDigit, startsDigit, afterDigits, areDigits, endsNumber, withoutSign, isNumber, figures};
+ghost use Rattle.fields.specs.meaning.Number.{minus, figures};
+ghost use Rattle.reading.specs.meaning.Digit.{isDigit};
+ghost use Rattle.fields.specs.method.Number.{startsDigit, afterDigits, areDigits, endsNumber, withoutSign, isNumber};
+use reading::bytes;
 use reading::service::Service;
 
 const MINUS: u8 = b'-';
-
-pub fn is_digit(byte: u8) -> bool
-    ensures { λ r. ⌜ r ≡ isDigit byte ⌝ }
-{
-    if byte < b'0' {
-        return false;
-    }
-    byte <= b'9'
-}
 
 fn starts_digit(part: &[u8], from: usize) -> bool
     ensures { λ r. ⌜ r ≡ startsDigit (drop from (now (part .entry))) ⌝ }
 {
     if from < part.len() {
-        return is_digit(part[from]);
+        return bytes::is_digit(part[from]);
     }
     false
 }
@@ -35,7 +29,7 @@ fn skip_digits(part: &[u8], from: usize) -> usize
 {
     let mut at = from;
     while at < part.len() {
-        if !is_digit(part[at]) {
+        if !bytes::is_digit(part[at]) {
             return at;
         }
         at += 1;

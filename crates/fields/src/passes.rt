@@ -1,8 +1,8 @@
 // The pass over a message whose segments have their homes.
 ghost use mathlib.Core.Path.{_≡_};
 ghost use lib.ListN.{length, take};
-ghost use Rattle.book.specs.Guide.{guideOf};
-ghost use Rattle.fields.specs.Testing.{firstFault, FirstInReach};
+ghost use Rattle.book.specs.meaning.Guide.{guideOf};
+ghost use Rattle.fields.specs.method.Testing.{firstFault, FirstInReach};
 use crate::fault;
 use crate::fault::Fault;
 use reading::service::Service;

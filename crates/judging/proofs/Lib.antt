@@ -1,20 +1,4 @@
-pub mod Decimals
-pub mod Frames
-pub mod Messages
-pub mod Stars
+-- How the stages of the code run through the definitions.
 pub mod Refusals
-pub mod Saying
-pub mod Order
-pub mod Telling
-pub mod RowsTelling
-pub mod Carrying
 pub mod PlacedStages
-pub mod Clearing
-pub mod Decisions
-pub mod FieldsTelling
-pub mod PlacedTelling
-pub mod DemandThree
-pub mod DemandOne
-pub mod DemandTwo
-pub mod Demands
-pub mod OneOutcome
+pub mod Decided

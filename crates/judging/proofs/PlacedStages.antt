@@ -9,22 +9,22 @@ use lib.Dec.{eqb}
 use lib.ListN.{length, getD, take, drop, drop-of-length-le, List·getD-eq-default}
 use lib.Seq.{drop-cons}
 use borrow.Author.Tests.{eq-eqb, ne-eqb}
-use Rattle.book.specs.Guide.{Guide}
+use Rattle.book.specs.meaning.Guide.{Guide}
 use Rattle.reading.specs.declared.service.Service.{Service}
-use Rattle.fields.specs.Testing.{FirstInReach}
+use Rattle.fields.specs.method.Testing.{FirstInReach}
 use Rattle.fields.specs.declared.passes.FirstFault.{FirstFault}
 use Rattle.fields.specs.declared.passes.FirstFault.the-variants.{At, Clean}
-use Rattle.rules.specs.Scanning.{scannedRow}
-use Rattle.rules.specs.Identifiers.{identified}
+use Rattle.rules.specs.method.Scanning.{scannedRow}
+use Rattle.rules.specs.method.Identifiers.{identified}
 use Rattle.rules.specs.declared.finding.Finding.{Finding}
 use Rattle.rules.specs.declared.finding.Finding.the-variants.{Kept, Broken, Unsettled}
 use Rattle.rules.specs.declared.identifier.Identified.{Identified}
 use Rattle.rules.specs.declared.identifier.Identified.the-variants.{Known, Foreign}
-use Rattle.judging.specs.Verdicts.{place, verdict, answer}
-use Rattle.judging.specs.Message.{componentAt}
-use Rattle.judging.specs.Table.{placeFrom, carrierPlace, identifierIn, rowsVerdict}
-use Rattle.judging.specs.Placed.{foundVerdict}
-use Rattle.judging.specs.declared.verdict.Verdict.{Verdict}
+use Rattle.framing.specs.meaning.Record.{place, verdict, answer}
+use Rattle.framing.specs.method.Stages.{componentAt}
+use Rattle.judging.specs.method.Table.{placeFrom, carrierPlace, identifierIn, identifierVerdict}
+use Rattle.judging.specs.meaning.Answers.{rowsVerdict}
+use Rattle.framing.specs.declared.verdict.Verdict.{Verdict}
 
 -- ---- an entry
 
@@ -88,13 +88,16 @@ module _ (l n : ℕ) (hs : List ℕ) where
 
 -- ---- the verdicts
 
-pub broken-row : (n k l : ℕ) (v : Verdict) (f : Finding) → v ≡ answer 0 n → f ≡ Broken k l
-    → verdict 14 (place k l (v .place .element) (v .place .component)) (v .condition) ≡ rowsVerdict n f
-broken-row n k l v f e h = ap (λ (x : Verdict). verdict 14 (place k l (x .place .element) (x .place .component)) (x .condition)) e ∙ ap (rowsVerdict n) (sym h)
+-- a row that is not kept changes what the record of a kept one holds
+pub broken-row : (n k l : ℕ) (v : Verdict) (f : Finding) → v ≡ rowsVerdict n Kept → f ≡ Broken k l
+    → verdict (rowsVerdict n (Broken k l) .number) (place k l (v .place .element) (v .place .component)) (v .condition) ≡ rowsVerdict n f
+broken-row n k l v f e h =
+    ap (λ (x : Verdict). verdict (rowsVerdict n (Broken k l) .number) (place k l (x .place .element) (x .place .component)) (x .condition)) e ∙ ap (rowsVerdict n) (sym h)
 
-pub open-row : (n k l c : ℕ) (v : Verdict) (f : Finding) → v ≡ answer 0 n → f ≡ Unsettled k l c
-    → verdict 15 (place k l (v .place .element) (v .place .component)) c ≡ rowsVerdict n f
-open-row n k l c v f e h = ap (λ (x : Verdict). verdict 15 (place k l (x .place .element) (x .place .component)) c) e ∙ ap (rowsVerdict n) (sym h)
+pub open-row : (n k l c : ℕ) (v : Verdict) (f : Finding) → v ≡ rowsVerdict n Kept → f ≡ Unsettled k l c
+    → verdict (rowsVerdict n (Unsettled k l c) .number) (place k l (v .place .element) (v .place .component)) c ≡ rowsVerdict n f
+open-row n k l c v f e h =
+    ap (λ (x : Verdict). verdict (rowsVerdict n (Unsettled k l c) .number) (place k l (x .place .element) (x .place .component)) c) e ∙ ap (rowsVerdict n) (sym h)
 
 -- a field fault's numbers fit into 32 bits
 pub in-reach : (m : ℕ) (r : FirstFault) (k l e c : ℕ) → FirstInReach m r → r ≡ At k l e c → (e ≤ m + 256) × (c ≤ m + 256)
@@ -109,8 +112,8 @@ module _ (s : Service) (g : Guide) (bs : List ℕ) (starts hs : List ℕ) (line 
   value-there = e ∙ ap (λ (x : ℕ). componentAt s bs x 1 2) (d ∙ ap (λ (i : ℕ). getD starts i 0) (c ∙ ap (λ (i : ℕ). i - 1) carrier-there))
 
   module _ (cs : List ℕ) (n : ℕ) where
-    pub foreign-found : r ≡ Foreign → answer 13 k ≡ foundVerdict g cs n hs (identified g (identifierIn s g bs starts hs))
-    foreign-found h = ap (answer 13) carrier-there ∙ ap (foundVerdict g cs n hs) (sym h ∙ f ∙ ap (identified g) value-there)
+    pub foreign-found : r ≡ Foreign → answer 13 k ≡ identifierVerdict g cs n hs (identified g (identifierIn s g bs starts hs))
+    foreign-found h = ap (answer 13) carrier-there ∙ ap (identifierVerdict g cs n hs) (sym h ∙ f ∙ ap (identified g) value-there)
 
-    pub known-found : (p : ℕ) (x : Finding) → r ≡ Known p → x ≡ scannedRow g p cs hs → rowsVerdict n x ≡ foundVerdict g cs n hs (identified g (identifierIn s g bs starts hs))
-    known-found p x h i = ap (rowsVerdict n) i ∙ ap (foundVerdict g cs n hs) (sym h ∙ f ∙ ap (identified g) value-there)
+    pub known-found : (p : ℕ) (x : Finding) → r ≡ Known p → x ≡ scannedRow g p cs hs → rowsVerdict n x ≡ identifierVerdict g cs n hs (identified g (identifierIn s g bs starts hs))
+    known-found p x h i = ap (rowsVerdict n) i ∙ ap (identifierVerdict g cs n hs) (sym h ∙ f ∙ ap (identified g) value-there)

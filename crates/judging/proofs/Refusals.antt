@@ -10,17 +10,17 @@ use lib.Dec.{eqb, leb}
 use lib.ListN.{length, getD, drop, drop-of-length-le}
 use lib.Seq.{drop-cons}
 use borrow.Author.Tests.{eq-eqb, ne-eqb, lt-leb, le-leb}
-use Rattle.book.specs.Guide.{Guide, guideOf}
-use Rattle.book.specs.Rule.{run}
-use Rattle.book.specs.Each.{headerRule, recordsRule, framedRule}
-use Rattle.book.specs.GoodBook.{GoodBook, Judged}
+use Rattle.book.specs.meaning.Guide.{Guide, guideOf}
+use Rattle.book.specs.meaning.Rule.{run}
+use Rattle.book.specs.method.Each.{headerRule, recordsRule, framedRule}
+use Rattle.book.specs.meaning.GoodBook.{GoodBook, Judged}
 use Rattle.book.proofs.Checking.{header-bad, records-bad, frame-bad, runs-good}
 use Rattle.reading.specs.declared.service.Service.{Service}
-use Rattle.judging.specs.Verdicts.{answer, orElse}
-use Rattle.judging.specs.Message.{messageStage}
-use Rattle.judging.specs.Table.{isGood, bookStage, areKnown, conditionsStage, placingStage, refusal}
-use Rattle.judging.specs.declared.message.Room.{Room}
-use Rattle.judging.specs.declared.verdict.Verdict.{Verdict}
+use Rattle.framing.specs.meaning.Record.{answer, orElse}
+use Rattle.framing.specs.method.Stages.{messageStage}
+use Rattle.judging.specs.method.Table.{isGood, bookStage, areKnown, conditionsStage, placingStage, refusal}
+use Rattle.framing.specs.declared.message.Room.{Room}
+use Rattle.framing.specs.declared.verdict.Verdict.{Verdict}
 
 -- ---- number 1
 

@@ -1,11 +1,12 @@
 // The judge: one message, one guide book, and what is known of the conditions.
 ghost use mathlib.Core.Path.{_≡_};
-ghost use Rattle.reading.specs.Service.{standard, GoodService};
-ghost use Rattle.judging.specs.Table.{judged, tablesAfter, tables, roomOf};
-use crate::message::Room;
+ghost use Rattle.reading.specs.meaning.Service.{standard};
+ghost use Rattle.judging.specs.method.Table.{judged, tablesAfter};
+ghost use Rattle.judging.specs.meaning.Tables.{tables, roomOf};
 use crate::placed;
 use crate::refusing;
-use crate::verdict::Verdict;
+use framing::Room;
+use framing::Verdict;
 use reading::service::Service;
 
 // Under a file's service characters. The refusals come first, since nothing that is written could be restored.
@@ -18,7 +19,6 @@ fn judge_with(
     homes: &mut [u32],
     parents: &mut [u32],
 ) -> Verdict
-    requires { ⌜ GoodService service ⌝ }
     ensures { λ r. ⌜ (r ≡ judged service (now (message .entry)) (now (book .entry)) (now (conditions .entry)) (roomOf (tables (now (starts .entry)) (now (homes .entry)) (now (parents .entry)))))
         × (tables (now (starts .exit)) (now (homes .exit)) (now (parents .exit))
         ≡ tablesAfter service (now (message .entry)) (now (book .entry)) (now (conditions .entry)) (tables (now (starts .entry)) (now (homes .entry)) (now (parents .entry)))) ⌝ }

@@ -1,12 +1,7 @@
-// Judging: the order of the verdicts, the record and the tables. 01, "Verdict numbers"; to be read in this order: verdict,
-// survey (numbers 4 and 7), message (3 to 9), refusing (1 to 11), placed (12 to 15), deciding.
+// Judging: 01's table as code, and nothing else. 01, "Verdict numbers"; to be read in this order: refusing (1 to 11, of which the
+// crate framing asks 3 to 9), placed (12 to 15), deciding.
 mod deciding;
-mod message;
 mod placed;
 mod refusing;
-mod survey;
-mod verdict;
 
 pub use deciding::judge;
-pub use verdict::Place;
-pub use verdict::Verdict;

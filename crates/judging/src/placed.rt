@@ -1,17 +1,17 @@
-// Numbers 12 to 15: of a message whose starts and homes stand in the tables.
+// Numbers 12 to 15, in the order of 01's table: of a message whose starts and homes stand in the tables.
 ghost use mathlib.Core.Path.{_≡_};
 ghost use Prim.Native.Nat.{_-_, _≤_};
 ghost use lib.ListN.{length, getD, take};
-ghost use Rattle.book.specs.Guide.{guideOf};
-ghost use Rattle.reading.specs.Limits.{mostBytes};
-ghost use Rattle.rules.specs.Scanning.{scannedRow};
-ghost use Rattle.rules.specs.Identifiers.{identified};
-ghost use Rattle.judging.specs.Table.{placeFrom, identifierIn, rowsVerdict};
-ghost use Rattle.judging.specs.Placed.{foundVerdict, foundStage};
-ghost use Rattle.judging.specs.Verdicts.{verdict, place as at};
-use crate::verdict::Verdict;
+ghost use Rattle.book.specs.meaning.Guide.{guideOf};
+ghost use Rattle.reading.specs.meaning.Limits.{mostBytes};
+ghost use Rattle.rules.specs.method.Scanning.{scannedRow};
+ghost use Rattle.rules.specs.method.Identifiers.{identified};
+ghost use Rattle.judging.specs.method.Table.{placeFrom, identifierIn, identifierVerdict, placedVerdict};
+ghost use Rattle.judging.specs.meaning.Answers.{rowsVerdict};
+ghost use Rattle.framing.specs.meaning.Record.{verdict, place as at};
 use book::layout;
 use fields::FirstFault;
+use framing::Verdict;
 use reading::lookup;
 use reading::service::Service;
 use rules::finding::Finding;
@@ -19,7 +19,93 @@ use rules::first_row;
 use rules::identifier;
 use rules::identifier::Identified;
 
-// ---- number 13
+// Numbers 12 to 15; number 0 where there is none of these.
+pub fn placed_stage(
+    service: Service,
+    message: &[u8],
+    segments: u32,
+    book: &[u8],
+    conditions: &[u8],
+    starts: &[u32],
+    homes: &[u32],
+) -> Verdict
+    requires { ⌜ length (now message) ≤ mostBytes ⌝ }
+    ensures { λ r. ⌜ r ≡ placedVerdict service (guideOf (now (book .entry))) (now (message .entry)) (now (conditions .entry)) segments (take segments (now (starts .entry))) (take segments (now (homes .entry))) ⌝ }
+{
+    match fields::test_fields(service, message, segments, book, starts, homes) {
+        FirstFault::At(place, line, element, component) => {
+            fault_verdict(place, line, element as u32, component as u32)
+        }
+        FirstFault::Clean => rules_stage(
+            service,
+            message,
+            segments,
+            book,
+            conditions,
+            starts,
+            homes,
+        ),
+    }
+}
+
+fn fault_verdict(place: u32, line: u32, element: u32, component: u32) -> Verdict
+    ensures { λ r. ⌜ r ≡ verdict 12 (at place line element component) 0 ⌝ }
+{
+    let mut verdict = Verdict::answer(12, place);
+    verdict.place.line = line;
+    verdict.place.element = element;
+    verdict.place.component = component;
+    verdict
+}
+
+// Numbers 13 to 15.
+fn rules_stage(
+    service: Service,
+    message: &[u8],
+    segments: u32,
+    book: &[u8],
+    conditions: &[u8],
+    starts: &[u32],
+    homes: &[u32],
+) -> Verdict
+    ensures { λ r. ⌜ r ≡ identifierVerdict (guideOf (now (book .entry))) (now (conditions .entry)) segments (take segments (now (homes .entry)))
+        (identified (guideOf (now (book .entry))) (identifierIn service (guideOf (now (book .entry))) (now (message .entry)) (take segments (now (starts .entry))) (take segments (now (homes .entry))))) ⌝ }
+{
+    let place = place_of(homes, segments, layout::carrier(book));
+    let at = entry_at(starts, segments, entry_for(place)) as usize;
+    let value = lookup::find_component(service, message, at, 1, 2);
+    match identifier::find_identifier(book, value) {
+        Identified::Foreign => Verdict::answer(13, place),
+        Identified::Known(known) => {
+            let found = first_row::first_row(book, known, conditions, segments, homes);
+            row_verdict(segments, found)
+        }
+    }
+}
+
+fn row_verdict(segments: u32, found: Finding) -> Verdict
+    ensures { λ r. ⌜ r ≡ rowsVerdict segments found ⌝ }
+{
+    let mut verdict = Verdict::answer(0, segments);
+    match found {
+        Finding::Kept => verdict,
+        Finding::Broken(place, line) => {
+            verdict.number = 14;
+            verdict.place.at = place;
+            verdict.place.line = line;
+            verdict
+        }
+        Finding::Unsettled(place, line, condition) => {
+            verdict.number = 15;
+            verdict.place.at = place;
+            verdict.place.line = line;
+            verdict.condition = condition;
+            verdict
+        }
+    }
+}
+
+// ---- where the Prüfidentifikator stands
 
 // The first of so many segments whose home is this line, by its place; 0 if there is none.
 fn place_of(homes: &[u32], segments: u32, line: u32) -> u32
@@ -60,94 +146,4 @@ fn entry_at(table: &[u32], entries: u32, at: u32) -> u32
         return 0;
     }
     table[at as usize]
-}
-
-// ---- numbers 14 and 15
-
-fn row_verdict(segments: u32, found: Finding) -> Verdict
-    ensures { λ r. ⌜ r ≡ rowsVerdict segments found ⌝ }
-{
-    let mut verdict = Verdict::answer(0, segments);
-    match found {
-        Finding::Kept => verdict,
-        Finding::Broken(place, line) => {
-            verdict.number = 14;
-            verdict.place.at = place;
-            verdict.place.line = line;
-            verdict
-        }
-        Finding::Unsettled(place, line, condition) => {
-            verdict.number = 15;
-            verdict.place.at = place;
-            verdict.place.line = line;
-            verdict.condition = condition;
-            verdict
-        }
-    }
-}
-
-// ---- in their order
-
-// Numbers 13 to 15.
-fn rules_stage(
-    service: Service,
-    message: &[u8],
-    segments: u32,
-    book: &[u8],
-    conditions: &[u8],
-    starts: &[u32],
-    homes: &[u32],
-) -> Verdict
-    ensures { λ r. ⌜ r ≡ foundVerdict (guideOf (now (book .entry))) (now (conditions .entry)) segments (take segments (now (homes .entry)))
-        (identified (guideOf (now (book .entry))) (identifierIn service (guideOf (now (book .entry))) (now (message .entry)) (take segments (now (starts .entry))) (take segments (now (homes .entry))))) ⌝ }
-{
-    let place = place_of(homes, segments, layout::carrier(book));
-    let at = entry_at(starts, segments, entry_for(place)) as usize;
-    let value = lookup::find_component(service, message, at, 1, 2);
-    match identifier::find_identifier(book, value) {
-        Identified::Foreign => Verdict::answer(13, place),
-        Identified::Known(known) => {
-            let found = first_row::first_row(book, known, conditions, segments, homes);
-            row_verdict(segments, found)
-        }
-    }
-}
-
-fn fault_verdict(place: u32, line: u32, element: u32, component: u32) -> Verdict
-    ensures { λ r. ⌜ r ≡ verdict 12 (at place line element component) 0 ⌝ }
-{
-    let mut verdict = Verdict::answer(12, place);
-    verdict.place.line = line;
-    verdict.place.element = element;
-    verdict.place.component = component;
-    verdict
-}
-
-// Numbers 12 to 15; number 0 where there is none of these.
-pub fn placed_stage(
-    service: Service,
-    message: &[u8],
-    segments: u32,
-    book: &[u8],
-    conditions: &[u8],
-    starts: &[u32],
-    homes: &[u32],
-) -> Verdict
-    requires { ⌜ length (now message) ≤ mostBytes ⌝ }
-    ensures { λ r. ⌜ r ≡ foundStage service (guideOf (now (book .entry))) (now (message .entry)) (now (conditions .entry)) segments (take segments (now (starts .entry))) (take segments (now (homes .entry))) ⌝ }
-{
-    match fields::test_fields(service, message, segments, book, starts, homes) {
-        FirstFault::At(place, line, element, component) => {
-            fault_verdict(place, line, element as u32, component as u32)
-        }
-        FirstFault::Clean => rules_stage(
-            service,
-            message,
-            segments,
-            book,
-            conditions,
-            starts,
-            homes,
-        ),
-    }
 }

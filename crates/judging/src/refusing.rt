@@ -1,13 +1,37 @@
-// The refusals, numbers 1 to 11, in the order of 01's table. They touch no table.
+// The refusals, numbers 1 to 11, in the order of 01's table. They touch no table. Numbers 3 to 9 are asked in the crate framing.
 ghost use mathlib.Core.Path.{_≡_};
-ghost use Rattle.book.specs.Guide.{guideOf};
-ghost use Rattle.judging.specs.Table.{areKnown, bookStage, conditionsStage, placingStage, refusal};
-use crate::message;
-use crate::message::Room;
-use crate::verdict::Verdict;
+ghost use Rattle.book.specs.meaning.Guide.{guideOf};
+ghost use Rattle.judging.specs.method.Table.{areKnown, bookStage, conditionsStage, placingStage, refusal};
 use book::layout;
+use framing::Room;
+use framing::Verdict;
 use placing::Placing;
 use reading::service::Service;
+
+// Numbers 1 to 11; number 0 with the segment count where there is none of these.
+pub fn refuse(
+    service: Service,
+    message: &[u8],
+    book: &[u8],
+    conditions: &[u8],
+    room: Room,
+) -> Verdict
+    ensures { λ r. ⌜ r ≡ refusal service (now (message .entry)) (now (book .entry)) (now (conditions .entry)) room ⌝ }
+{
+    let of_book = book_stage(book);
+    if of_book.number != 0 {
+        return of_book;
+    }
+    let of_conditions = conditions_stage(book, conditions);
+    if of_conditions.number != 0 {
+        return of_conditions;
+    }
+    let of_message = framing::message_stage(service, message, room);
+    if of_message.number != 0 {
+        return of_message;
+    }
+    placing_stage(service, message, book, of_message.place.at)
+}
 
 // Number 1.
 fn book_stage(book: &[u8]) -> Verdict
@@ -17,20 +41,6 @@ fn book_stage(book: &[u8]) -> Verdict
         return Verdict::answer(1, 0);
     }
     Verdict::answer(0, 0)
-}
-
-// Is each byte 0, 1 or 2?
-fn are_known(conditions: &[u8]) -> bool
-    ensures { λ r. ⌜ r ≡ areKnown (now (conditions .entry)) ⌝ }
-{
-    let mut at = 0;
-    while at < conditions.len() {
-        if 2 < conditions[at] {
-            return false;
-        }
-        at += 1;
-    }
-    true
 }
 
 // Number 2.
@@ -58,27 +68,16 @@ fn placing_stage(service: Service, message: &[u8], book: &[u8], segments: u32) -
     }
 }
 
-// Numbers 1 to 11; number 0 with the segment count where there is none of these.
-pub fn refuse(
-    service: Service,
-    message: &[u8],
-    book: &[u8],
-    conditions: &[u8],
-    room: Room,
-) -> Verdict
-    ensures { λ r. ⌜ r ≡ refusal service (now (message .entry)) (now (book .entry)) (now (conditions .entry)) room ⌝ }
+// Is each byte 0, 1 or 2?
+fn are_known(conditions: &[u8]) -> bool
+    ensures { λ r. ⌜ r ≡ areKnown (now (conditions .entry)) ⌝ }
 {
-    let of_book = book_stage(book);
-    if of_book.number != 0 {
-        return of_book;
+    let mut at = 0;
+    while at < conditions.len() {
+        if 2 < conditions[at] {
+            return false;
+        }
+        at += 1;
     }
-    let of_conditions = conditions_stage(book, conditions);
-    if of_conditions.number != 0 {
-        return of_conditions;
-    }
-    let of_message = message::message_stage(service, message, room);
-    if of_message.number != 0 {
-        return of_message;
-    }
-    placing_stage(service, message, book, of_message.place.at)
+    true
 }

@@ -11,20 +11,21 @@ use lib.Dec.{eqb, ltb}
 use lib.ListN.{length, getD, set, drop, drop-of-length-le}
 use lib.Seq.{drop-cons, getD-set-same, getD-set-other}
 use borrow.Author.Tests.{eq-eqb, ne-eqb, eqb-true, eqb-false, lt-ltb, le-ltb, ltb-true, ltb-false}
-use Rattle.book.specs.Guide.{Guide}
-use Rattle.reading.specs.Machine.{seekFrom}
-use Rattle.reading.specs.Part.{bytesIn}
-use Rattle.reading.specs.Tag.{tagAt}
+use Rattle.book.specs.meaning.Guide.{Guide}
+use Rattle.reading.specs.method.Machine.{seekFrom}
+use Rattle.reading.specs.method.Part.{bytesIn}
+use Rattle.reading.specs.method.Tag.{tagAt}
 use Rattle.reading.specs.declared.service.Service.{Service}
 use Rattle.reading.specs.declared.span.Span.{Span}
 use Rattle.reading.proofs.Seeking.{Inside, seek-inside}
-use Rattle.placing.specs.Fitting.{least, spells, isCode, isAnyCode, isSelectedAt, fitsAt, homeAt}
-use Rattle.placing.specs.Plan.{planOf}
-use Rattle.placing.specs.Walking.{SegmentLine}
-use Rattle.placing.specs.Kept.{Looked, homeTag, tabledEnd, TagsOf, firstOfTag}
+use Rattle.placing.specs.meaning.Fitting.{least}
+use Rattle.placing.specs.method.Fitting.{spells, isCode, isAnyCode, isSelectedAt, fitsAt, homeAt}
+use Rattle.placing.specs.meaning.Plan.{planOf}
+use Rattle.placing.specs.method.Walking.{SegmentLine}
+use Rattle.placing.specs.method.Kept.{Looked, homeTag, tabledEnd, TagsOf, firstOfTag}
 use Rattle.placing.specs.declared.home.Selected.{Selected}
-use Rattle.placing.proofs.LeavingOut.{left, right, denied}
-use Rattle.placing.proofs.Loops.{none-left, one-less}
+use Rattle.reading.proofs.Booleans.{left, right, denied}
+use Rattle.reading.proofs.Starts.{none-left, one-less}
 
 -- ---- one code
 

@@ -1,31 +1,13 @@
 -- What the scans over lines find.
-use Prim.Native.Nat.{ℕ, zero, suc, _+_, _-_, _≤_, _<_}
+use Prim.Native.Nat.{ℕ, zero, suc, _+_, _≤_, _<_}
 use native.Mathlib.Omega.{arith}
-use mathlib.Core.Path.{_≡_, refl, sym, ap, _∙_, subst}
-use mathlib.Core.Bool.{Bool, true, false, true≢false, false≢true, cond, not, _&&_}
+use mathlib.Core.Path.{_≡_, refl, sym, ap, subst}
+use mathlib.Core.Bool.{Bool, true, false, cond, not, _&&_}
 use lib.Dec.{eqb, ltb}
-use borrow.Author.Tests.{eq-eqb, ne-eqb, eqb-true, eqb-false, ltb-true, ltb-false, lt-ltb, le-ltb}
-use Rattle.placing.specs.Plan.{Plan}
-use Rattle.placing.specs.Walking.{isWanted, isClear, isPassed}
-
-pub both : {a b : Bool} → a ≡ true → b ≡ true → (a && b) ≡ true
-both p q = simp (p, q)
-
-pub left : (a b : Bool) → (a && b) ≡ true → a ≡ true
-left true b e = refl
-left false b e = absurd (false≢true e)
-
-pub right : (a b : Bool) → (a && b) ≡ true → b ≡ true
-right true b e = e
-right false b e = absurd (false≢true e)
-
-pub denied : (a : Bool) → not a ≡ true → a ≡ false
-denied true e = absurd (false≢true e)
-denied false e = refl
-
-pub refuted : (a : Bool) → (a ≡ true → ⊥) → a ≡ false
-refuted true e = absurd (e refl)
-refuted false e = refl
+use borrow.Author.Tests.{eq-eqb, eqb-true, eqb-false, ltb-true, ltb-false, le-ltb}
+use Rattle.placing.specs.meaning.Plan.{Plan}
+use Rattle.placing.specs.method.Walking.{isWanted, isClear, isPassed}
+use Rattle.reading.proofs.Booleans.{both, left, right, denied}
 
 -- nothing is wanted at line x, where it is of depth d
 unwanted : (b : Plan) (d x : ℕ) → isWanted b d x ≡ false → b .depth x ≡ d → b .required x ≡ false

@@ -1,20 +1,6 @@
--- Laws of placing: what the walk and the tables mean in terms of placement trees, and what the proofs of the functions share.
-pub mod Structured
+-- How the loops of the code run through the definitions: what the scans over lines find, then the walk, the search, the passes.
 pub mod LeavingOut
-pub mod Trees
-pub mod Walks
-pub mod Completing
-pub mod Stopping
-pub mod OnePlacement
-pub mod OneIdentifier
-pub mod Noted
-pub mod Closed
 pub mod Loops
 pub mod Steps
 pub mod Finding
 pub mod Passing
-pub mod Codes
-pub mod Homes
-pub mod Messages
-pub mod Examples
-pub mod OneOutcome

@@ -6,15 +6,9 @@ use mathlib.Core.Path.{_≡_, refl, sym, ap, ap₂, _∙_}
 use mathlib.Core.Bool.{Bool, true, false, cond, not, _&&_}
 use lib.Dec.{eqb, ltb}
 use borrow.Author.Tests.{lt-ltb, le-ltb, eq-eqb, ne-eqb}
-use Rattle.placing.specs.Plan.{Plan}
-use Rattle.placing.specs.Walking.{isWanted, isClear, isPassed}
-
--- how many are left from x on
-pub none-left : (x end : ℕ) → end ≤ x → end - x ≡ 0
-none-left x end h = omega arith
-
-pub one-less : (x end : ℕ) → x < end → end - x ≡ suc (end - (x + 1))
-one-less x end h = omega arith
+use Rattle.reading.proofs.Starts.{none-left, one-less}
+use Rattle.placing.specs.meaning.Plan.{Plan}
+use Rattle.placing.specs.method.Walking.{isWanted, isClear, isPassed}
 
 pub wanted-at : (b : Plan) (d x r : ℕ) (q : Bool) → r ≡ b .depth x → r ≡ d → q ≡ b .required x → q ≡ isWanted b d x
 wanted-at b d x r q e i h = h ∙ sym (simp (eq-eqb (b .depth x) d (sym e ∙ i)))

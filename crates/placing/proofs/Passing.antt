@@ -1,67 +1,41 @@
 -- The steps of the two passes over a message.
-use Prim.Native.Nat.{ℕ, zero, suc, _+_, _-_, _≤_, _<_}
+use Prim.Native.Nat.{ℕ, _+_, _-_, _≤_, _<_}
 use native.Mathlib.Omega.{arith}
 use native.Mathlib.Numerals.{add-one}
 use mathlib.Core.Path.{_≡_, refl, sym, ap, ap₂, _∙_}
 use mathlib.Core.List.{List, [], _∷_, _++_, map}
-use mathlib.Core.Bool.{Bool, true, false, true≢false, cond}
+use mathlib.Core.Bool.{Bool, cond}
 use lib.Dec.{eqb}
-use lib.ListN.{length, set}
-use lib.Seq.{sets, length-sets}
+use lib.ListN.{length, set, drop}
+use lib.Seq.{sets, sets-eq, length-sets}
 use borrow.Author.Tests.{eq-eqb, ne-eqb}
-use Rattle.book.specs.Guide.{guideOf}
-use Rattle.reading.specs.Machine.{segmentEnd, foundBy, nextSegment}
+use Rattle.book.specs.meaning.Guide.{guideOf}
+use Rattle.reading.specs.method.Machine.{nextSegment}
 use Rattle.reading.specs.declared.service.Service.{Service}
 use Rattle.reading.specs.declared.span.Span.{Span}
 use Rattle.reading.specs.declared.cursor.Cursor.{Cursor}
-use Rattle.reading.specs.declared.cursor.End.{End}
-use Rattle.reading.specs.declared.cursor.End.the-variants.{At, Nowhere}
-use Rattle.reading.specs.declared.cursor.Found.{Found}
 use Rattle.reading.specs.declared.cursor.Found.the-variants as found
-use Rattle.reading.proofs.Ending.{end-within}
-use Rattle.placing.specs.Plan.{Plan, planIn}
-use Rattle.placing.specs.Fitting.{homeAt}
-use Rattle.placing.specs.Walking.{start, walked, isAlive, StandsFor}
-use Rattle.placing.specs.Tree.{rootOnly, parentIn, openedBy, noted, notedParents}
-use Rattle.placing.specs.Passes.{startsThen, startsFrom, homesFrom, firstStop, outcomeOf, testedFrom, tested, entry, startsTable, homesTable, parentsTable}
+use Rattle.reading.proofs.Starts.{starts-found, no-starts, starts-end}
+use Rattle.placing.specs.meaning.Plan.{Plan, planIn}
+use Rattle.placing.specs.method.Fitting.{homeAt}
+use Rattle.placing.specs.method.Walking.{start, walked, isAlive, StandsFor}
+use Rattle.placing.specs.method.Tree.{rootOnly, parentIn, openedBy, noted, notedParents}
+use Rattle.reading.specs.method.Starts.{startsFrom}
+use Rattle.placing.specs.method.Passes.{homesFrom, firstStop, outcomeOf, testedFrom, tested, entry, startsTable, homesTable, parentsTable}
 use Rattle.placing.specs.declared.walk.Walk.{Walk}
 use Rattle.placing.specs.declared.passes.Placing.{Placing}
 use Rattle.placing.specs.declared.passes.Placing.the-variants.{NoHome}
-use Rattle.placing.proofs.Loops.{none-left, one-less}
 
--- a segment that is found has its tag within the message
-pub found-within : (s : Service) (bs : List ℕ) (at : ℕ) (x : Span) (next : Cursor) → found.Segment x next ≡ nextSegment s bs at → at + 3 ≤ length bs
-found-within s bs at x next e = go (segmentEnd s bs at) refl e
-  where
-    isFound : Found → Bool
-    isFound (found.Segment y after) = true
-    isFound found.Nothing = false
-
-    go : (end : End) → segmentEnd s bs at ≡ end → found.Segment x next ≡ foundBy at end → at + 3 ≤ length bs
-    go (At end) i h = let w = end-within s bs at end i in let a = w .behind in let b = w .inside in omega arith
-    go Nowhere i h = absurd (true≢false (ap isFound h))
+-- so many entries, and what was there behind them
+pub filled : (xs table : List ℕ) (n : ℕ) → length xs ≡ n → n ≤ length table → sets table 0 xs ≡ xs ++ drop n table
+filled xs table n e h = let all : 0 + length xs ≡ n = omega arith in sets-eq xs table 0 (omega arith) ∙ ap (λ (k : ℕ). xs ++ drop k table) all
 
 module _ (s : Service) (bs book : List ℕ) where
   -- ---- the segments that are left, where k of n have been passed
 
-  pub starts-found : (k n at : ℕ) (x : Span) (next : Cursor) → k < n → found.Segment x next ≡ nextSegment s bs at
-      → startsFrom s bs (n - k) at ≡ at ∷ startsFrom s bs (n - (k + 1)) (next .at)
-  unfolding startsFrom
-  starts-found k n at x next h e =
-      ap (λ (m : ℕ). startsFrom s bs m at) (one-less k n h) ∙ ap (λ (f : Found). startsThen f (startsFrom s bs (n - (k + 1))) at) (sym e)
-
-  pub no-starts : (m at : ℕ) → found.Nothing ≡ nextSegment s bs at → startsFrom s bs m at ≡ []
-  unfolding startsFrom
-  no-starts zero at e = refl
-  no-starts (suc m) at e = ap (λ (f : Found). startsThen f (startsFrom s bs m) at) (sym e)
-
-  pub starts-end : (k n at : ℕ) → n ≤ k → startsFrom s bs (n - k) at ≡ []
-  unfolding startsFrom
-  starts-end k n at h = ap (λ (m : ℕ). startsFrom s bs m at) (none-left k n h)
-
   homes-found : (k n at : ℕ) (x : Span) (next : Cursor) → k < n → found.Segment x next ≡ nextSegment s bs at
       → homesFrom s bs book (n - k) at ≡ homeAt s (guideOf book) bs at ∷ homesFrom s bs book (n - (k + 1)) (next .at)
-  homes-found k n at x next h e = ap (map (homeAt s (guideOf book) bs)) (starts-found k n at x next h e)
+  homes-found k n at x next h e = ap (map (homeAt s (guideOf book) bs)) (starts-found s bs k n at x next h e)
 
   -- ---- the test
 
@@ -121,10 +95,10 @@ module _ (s : Service) (bs book : List ℕ) where
     none-left-to-test e = sym (ap (λ (ys : List ℕ). testedFrom (planIn book) (t .seen) stop k (map (homeAt s (guideOf book) bs) ys)) e ∙ tested-nil (t .seen) stop k) ∙ t .same
 
     pub test-nothing : found.Nothing ≡ nextSegment s bs at → outcomeOf stop ≡ tested (planIn book) (homesFrom s bs book n 0)
-    test-nothing e = none-left-to-test (no-starts (n - k) at e)
+    test-nothing e = none-left-to-test (no-starts s bs (n - k) at e)
 
     pub test-end : n ≤ k → outcomeOf stop ≡ tested (planIn book) (homesFrom s bs book n 0)
-    test-end h = none-left-to-test (starts-end k n at h)
+    test-end h = none-left-to-test (starts-end s bs k n at h)
 
   -- ---- the tables
 
@@ -169,7 +143,7 @@ module _ (s : Service) (bs book : List ℕ) where
           starts-left =
               ap (λ (t : List ℕ). sets t (k + 1) (map entry (startsFrom s bs (last - (k + 1)) (next .at)))) (ds ∙ ap (set starts k) hi)
               ∙ put-next starts (map entry (startsFrom s bs (last - (k + 1)) (next .at))) k (entry at)
-              ∙ ap (λ (ys : List ℕ). sets starts k (map entry ys)) (sym (starts-found k last at x next less e)) ∙ w .starts-left;
+              ∙ ap (λ (ys : List ℕ). sets starts k (map entry ys)) (sym (starts-found s bs k last at x next less e)) ∙ w .starts-left;
           homes-left =
               ap (λ (t : List ℕ). sets t (k + 1) (homesFrom s bs book (last - (k + 1)) (next .at))) dh
               ∙ put-next homes (homesFrom s bs book (last - (k + 1)) (next .at)) k h ∙ ap (sets homes k) left ∙ w .homes-left;
@@ -196,7 +170,7 @@ module _ (s : Service) (bs book : List ℕ) where
         }
       where
         ended : startsFrom s bs (k - k) at ≡ startsFrom s bs (last - k) at
-        ended = starts-end k k at (omega arith) ∙ sym (no-starts (last - k) at e)
+        ended = starts-end s bs k k at (omega arith) ∙ sym (no-starts s bs (last - k) at e)
 
     -- nothing is left
     pub write-end : last ≤ k → (starts ≡ startsTable s bs n starts₀) × (homes ≡ homesTable s bs book n homes₀) × (parents ≡ parentsTable s bs book n parents₀)
@@ -208,7 +182,7 @@ module _ (s : Service) (bs book : List ℕ) where
     )
       where
         done : startsFrom s bs (last - k) at ≡ []
-        done = starts-end k last at h
+        done = starts-end s bs k last at h
 
         noted-nil : noted (planIn book) k trail [] ≡ []
         noted-nil = refl

@@ -12,10 +12,10 @@ use borrow.Author.Tests.{lt-ltb, le-ltb, eq-eqb, ne-eqb, le-leb, ltb-true, eqb-t
 use Rattle.placing.specs.declared.walk.Level.{Level}
 use Rattle.placing.specs.declared.walk.Walk.{Walk}
 use Rattle.placing.specs.declared.walk.Move.{Move}
-use Rattle.book.specs.Guide.{guideOf, lineAt}
-use Rattle.placing.specs.Plan.{Plan, planIn}
-use Rattle.placing.specs.Walking.{Ready, StandsFor, SegmentLine, WithinEight, Opens, made, admits, advanced, canClose, canCloseAll, canMove, entered, isAlive, isClear, isPassed, isPlaceable, isTrigger, level, openLines, raised, stacked, start, target, walked}
-use Rattle.placing.specs.Tree.{openedBy}
+use Rattle.book.specs.meaning.Guide.{guideOf, lineAt}
+use Rattle.placing.specs.meaning.Plan.{Plan, planIn, isTrigger, target}
+use Rattle.placing.specs.method.Walking.{Ready, StandsFor, SegmentLine, WithinEight, Opens, made, admits, advanced, canClose, canCloseAll, canMove, entered, isAlive, isClear, isPassed, isPlaceable, level, openLines, raised, stacked, start, walked}
+use Rattle.placing.specs.method.Tree.{openedBy}
 
 stack-long : (w : Walk) → Ready w → length (openLines w) ≡ w .height
 stack-long w q = length-take (w .height) (w .levels) ∙ (let a = q .eight in let c = q .low in omega arith)

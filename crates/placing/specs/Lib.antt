@@ -1,8 +1,2 @@
--- What a reader must believe of placing, in the order of 01's "Placing and judging", first paragraph.
-pub mod Plan
-pub mod Fitting
-pub mod Kept
-pub mod Placement
-pub mod Walking
-pub mod Tree
-pub mod Passes
+pub mod meaning
+pub mod method

@@ -1,8 +1,7 @@
 // A component's value among codes of the book: a line's selector asks it, and a field.
 ghost use mathlib.Core.Path.{_≡_};
-ghost use Prim.Native.Nat.{_+_, _≤_, _^_};
-ghost use Rattle.book.specs.Guide.{guideOf};
-ghost use Rattle.placing.specs.Fitting.{isCode, isAnyCode};
+ghost use Rattle.book.specs.meaning.Guide.{guideOf};
+ghost use Rattle.placing.specs.method.Fitting.{isCode, isAnyCode};
 use book::layout;
 
 // Is this part of a message, as it is written, the code's value? No byte of a good code is ever released.
@@ -23,11 +22,11 @@ fn is_code(book: &[u8], code: u32, part: &[u8]) -> bool
     true
 }
 
-pub fn is_any_code(book: &[u8], first: u32, count: u32, part: &[u8]) -> bool
-    requires { ⌜ first + count ≤ 2 ^ 17 ⌝ }
+// First and count have two bytes, as a book says them.
+pub fn is_any_code(book: &[u8], first: u16, count: u16, part: &[u8]) -> bool
     ensures { λ r. ⌜ r ≡ isAnyCode (guideOf (now (book .entry))) first count (now (part .entry)) ⌝ }
 {
-    let mut code = first;
+    let mut code = first as u32;
     let mut left = count;
     while left > 0 {
         if is_code(book, code, part) {

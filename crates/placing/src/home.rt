@@ -2,12 +2,14 @@
 ghost use mathlib.Core.Path.{_≡_};
 ghost use Prim.Native.Nat.{suc, _+_, _-_, _≤_, _<_, _^_};
 ghost use lib.ListN.{length};
-ghost use Rattle.reading.specs.Tag.{tagAt};
-ghost use Rattle.book.specs.Guide.{guideOf};
-ghost use Rattle.placing.specs.Fitting.{isSelectedAt, least, fitsAt, homeAt};
-ghost use Rattle.placing.specs.Kept.{Looked, homeTag, tabledEnd, TagsOf, firstOfTag};
+ghost use Rattle.reading.specs.method.Tag.{tagAt};
+ghost use Rattle.book.specs.meaning.Guide.{guideOf};
+ghost use Rattle.placing.specs.method.Fitting.{isSelectedAt, fitsAt, homeAt};
+ghost use Rattle.placing.specs.meaning.Fitting.{least};
+ghost use Rattle.placing.specs.method.Kept.{Looked, homeTag, tabledEnd, TagsOf, firstOfTag};
 use crate::code;
 use book::layout;
+use book::words::KIND_GROUP;
 use reading::lookup;
 use reading::service::Service;
 use reading::span::Span;
@@ -68,8 +70,8 @@ fn is_selected(
     if selected.element == 0 {
         return true;
     }
-    let first = layout::first_code(book, line);
-    let count = layout::code_count(book, line);
+    let first = layout::first_code(book, line) as u16;
+    let count = layout::code_count(book, line) as u16;
     let start = selected.span.start;
     let end = selected.span.end;
     code::is_any_code(book, first, count, &message[start..end])
@@ -88,7 +90,7 @@ const NO_TAG: u32 = 0x100_0000;
 fn home_tag(book: &[u8], line: u32) -> u32
     ensures { λ r. ⌜ r ≡ homeTag (guideOf (now (book .entry))) line ⌝ }
 {
-    if layout::kind(book, line) == 2 {
+    if layout::kind(book, line) == KIND_GROUP {
         return NO_TAG;
     }
     layout::tag(book, line)

@@ -1,14 +1,14 @@
 // The two passes over a message. What refuses a message touches no table and nothing could be restored, so homes are found in a
 // test pass and again in the pass that writes.
 ghost use mathlib.Core.Path.{_≡_};
-ghost use lib.ListN.{set};
-ghost use Rattle.placing.specs.Plan.{planIn};
-ghost use Rattle.placing.specs.Passes.{homesFrom, firstStop, outcomeOf, tested, entry, startsTable, homesTable, parentsTable};
+ghost use Rattle.placing.specs.meaning.Plan.{planIn};
+ghost use Rattle.placing.specs.method.Passes.{homesFrom, firstStop, outcomeOf, tested, entry, startsTable, homesTable, parentsTable};
 use crate::home;
 use crate::tree;
 use crate::tree::Trail;
 use crate::walk;
 use crate::walk::Walk;
+use framing::table;
 use reading::cursor::Cursor;
 use reading::cursor::Found;
 use reading::service::Service;
@@ -82,16 +82,6 @@ pub fn test_placing(service: Service, message: &[u8], segments: u32, book: &[u8]
     outcome_of(stop)
 }
 
-// One number into a lent table, if it fits there.
-fn put(table: &mut [u32], at: u32, number: u32)
-    ensures { λ _. ⌜ now (table .exit) ≡ set (now (table .entry)) at number ⌝ }
-{
-    let at = at as usize;
-    if at < table.len() {
-        table[at] = number;
-    }
-}
-
 // An offset as a table holds it.
 fn entry_of(offset: usize) -> u32
     ensures { λ r. ⌜ r ≡ entry offset ⌝ }
@@ -125,9 +115,10 @@ pub fn write_tree(
         match cursor.next_segment(service, message) {
             Found::Segment(_, next) => {
                 let home = home::find_home(service, message, at, book, &tags, end);
-                put(starts, place, entry_of(at));
-                put(homes, place, home);
-                put(parents, place, tree::parent_of(book, trail, home));
+                let entry = place as usize;
+                table::put(starts, entry, entry_of(at));
+                table::put(homes, entry, home);
+                table::put(parents, entry, tree::parent_of(book, trail, home));
                 place += 1;
                 trail = tree::open_instance(book, trail, home, place);
                 cursor = next;

@@ -2,8 +2,8 @@
 ghost use mathlib.Core.Path.{_≡_};
 ghost use Prim.Native.Nat.{_<_};
 ghost use lib.ListN.{length};
-ghost use Rattle.placing.specs.Plan.{planIn};
-ghost use Rattle.placing.specs.Tree.{rootOnly, parentIn, openedBy};
+ghost use Rattle.placing.specs.meaning.Plan.{planIn};
+ghost use Rattle.placing.specs.method.Tree.{rootOnly, parentIn, openedBy};
 use crate::walk;
 
 // For each depth the number of the trigger whose instance was opened there last; 0 for the message itself.

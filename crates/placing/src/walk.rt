@@ -4,10 +4,12 @@ ghost use mathlib.Core.List.{List, _∷_, [], _++_};
 ghost use mathlib.Core.Bool.{cond};
 ghost use Prim.Native.Nat.{ℕ, suc, _+_, _-_, _≤_, _<_, _^_};
 ghost use lib.ListN.{getD, take, drop};
-ghost use Rattle.placing.specs.Plan.{Plan, planIn};
+ghost use Rattle.placing.specs.meaning.Plan.{Plan, planIn};
 ghost use Rattle.placing.specs.declared.walk.Walk.{Walk};
-ghost use Rattle.placing.specs.Walking.{isTrigger, target, isWanted, isClear, isPassed, canClose, canCloseAll, canMove, raised, level, entered, walked, start, isAlive, openLines, Ready, StandsFor, SegmentLine, WithinEight, Opens, made};
+ghost use Rattle.placing.specs.meaning.Plan.{isTrigger, target};
+ghost use Rattle.placing.specs.method.Walking.{isWanted, isClear, isPassed, canClose, canCloseAll, canMove, raised, level, entered, walked, start, isAlive, openLines, Ready, StandsFor, SegmentLine, WithinEight, Opens, made};
 use book::layout;
+use book::words::KIND_GROUP;
 
 // An open line and how often it has come in its parent's instance.
 pub struct Level {
@@ -24,7 +26,7 @@ pub struct Walk {
 fn is_group(book: &[u8], line: u32) -> bool
     ensures { λ r. ⌜ r ≡ planIn (now (book .entry)) .group line ⌝ }
 {
-    layout::kind(book, line) == 2
+    layout::kind(book, line) == KIND_GROUP
 }
 
 fn depth_of(book: &[u8], line: u32) -> usize

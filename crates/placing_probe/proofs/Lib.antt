@@ -1,2 +1,3 @@
--- What the proofs of the probes share.
+-- What the proofs of the probes share, and that their promises have one outcome.
 pub mod Standard
+pub mod OneOutcome

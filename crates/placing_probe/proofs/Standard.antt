@@ -1,17 +1,20 @@
 -- What holds of these service characters, which are the standard ones.
 use Prim.Native.Nat.{ℕ}
-use mathlib.Core.Path.{_≡_, ap, _∙_}
+use mathlib.Core.Path.{_≡_, sym, ap, _∙_}
 use mathlib.Core.List.{List}
-use Rattle.reading.specs.Service.{standard}
+use Rattle.reading.specs.meaning.Service.{standard}
 use Rattle.reading.specs.declared.service.Service.{Service}
-use Rattle.placing.specs.Plan.{planIn}
-use Rattle.placing.specs.Passes.{homesFrom, tested, startsTable, homesTable, parentsTable}
+use Rattle.placing.specs.meaning.Plan.{planIn}
+use Rattle.judging.specs.meaning.Answers.{placingVerdict}
+use Rattle.placing.specs.method.Passes.{homesFrom, tested, startsTable, homesTable, parentsTable}
 use Rattle.placing.specs.declared.passes.Placing.{Placing}
 use Rattle.placing_probe.specs.Probe.{packed}
 
 module _ (bs book : List ℕ) (n : ℕ) (s : Service) (known : s ≡ standard) where
-  pub placed : (r : Placing) → r ≡ tested (planIn book) (homesFrom s bs book n 0) → packed r ≡ packed (tested (planIn book) (homesFrom standard bs book n 0))
-  placed r e = ap packed (e ∙ ap (λ (x : Service). tested (planIn book) (homesFrom x bs book n 0)) known)
+  -- an outcome, once it is known, as one number
+  pub placed : (r p : Placing) → r ≡ p → r ≡ tested (planIn book) (homesFrom s bs book n 0)
+      → packed (placingVerdict n p) ≡ packed (placingVerdict n (tested (planIn book) (homesFrom standard bs book n 0)))
+  placed r p h e = ap (λ (x : Placing). packed (placingVerdict n x)) (sym h ∙ e ∙ ap (λ (x : Service). tested (planIn book) (homesFrom x bs book n 0)) known)
 
   pub tables : (starts homes parents starts₁ homes₁ parents₁ : List ℕ)
       → (starts₁ ≡ startsTable s bs n starts) × (homes₁ ≡ homesTable s bs book n homes) × (parents₁ ≡ parentsTable s bs book n parents)

@@ -1,8 +1,7 @@
 -- The answers of placing as single numbers, for tests in Rust.
 use Prim.Native.Nat.{ℕ, _+_, _*_, _^_}
-use Rattle.placing.specs.Passes.{numberOf, placeOf}
-use Rattle.placing.specs.declared.passes.Placing.{Placing}
+use Rattle.framing.specs.declared.verdict.Verdict.{Verdict}
 
 -- the table's number above, the place below
-abbrev pub packed : Placing → ℕ
-packed x = numberOf x * 2 ^ 32 + placeOf x
+abbrev pub packed : Verdict → ℕ
+packed v = v .number * 2 ^ 32 + v .place .at

@@ -2,19 +2,20 @@
 // The C door that is shipped, crate tracksaddle, does not have them.
 ghost use mathlib.Core.Path.{_≡_};
 ghost use Rattle.placing_probe.specs.Probe.{packed};
-ghost use Rattle.reading.specs.Service.{standard};
-ghost use Rattle.placing.specs.Plan.{planIn};
-ghost use Rattle.placing.specs.Passes.{homesFrom, tested, startsTable, homesTable, parentsTable};
+ghost use Rattle.reading.specs.meaning.Service.{standard};
+ghost use Rattle.placing.specs.meaning.Plan.{planIn};
+ghost use Rattle.judging.specs.meaning.Answers.{placingVerdict};
+ghost use Rattle.placing.specs.method.Passes.{homesFrom, tested, startsTable, homesTable, parentsTable};
 use placing::Placing;
 use reading::service::Service;
 
-// Number 10 or 11 and its place, or 0, for the message's first so many segments.
+// Number 10 or 11 and its place, or 0 and the segment count, for the message's first so many segments.
 #[no_mangle]
 pub extern "C" fn probe_place(message: &[u8], segments: u32, book: &[u8]) -> u64
-    ensures { λ r. ⌜ r ≡ packed (tested (planIn (now (book .entry))) (homesFrom standard (now (message .entry)) (now (book .entry)) segments 0)) ⌝ }
+    ensures { λ r. ⌜ r ≡ packed (placingVerdict segments (tested (planIn (now (book .entry))) (homesFrom standard (now (message .entry)) (now (book .entry)) segments 0))) ⌝ }
 {
     match placing::test_placing(Service::standard(), message, segments, book) {
-        Placing::Begins => 0,
+        Placing::Begins => segments as u64,
         Placing::NoHome(place) => 10 * 0x1_0000_0000 + place as u64,
         Placing::Stops(place) => 11 * 0x1_0000_0000 + place as u64,
     }

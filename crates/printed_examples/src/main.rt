@@ -7,8 +7,7 @@ use libc::STDOUT_FILENO;
 use reading::cursor::Cursor;
 use reading::cursor::Found;
 use reading::lookup;
-use reading::scan;
-use reading::scan::Outcome;
+use reading::machine;
 use reading::service::Service;
 
 fn write(text: &[u8]) {
@@ -110,24 +109,48 @@ fn write_segments(text: &[u8]) {
     }
 }
 
+// How far a text is made of segments, one behind the other, and how many there are.
+struct Run {
+    end: usize,
+    segments: usize,
+}
+
+fn read_segments(text: &[u8]) -> Run {
+    let mut at = 0;
+    let mut segments: usize = 0;
+    while at < text.len() {
+        let cursor = Cursor { at };
+        match cursor.next_segment(Service::standard(), text) {
+            Found::Segment(_, next) => {
+                let behind = next.at;
+                if behind <= at {
+                    return Run { end: at, segments };
+                }
+                at = behind;
+                segments += 1;
+            }
+            Found::Nothing => {
+                return Run { end: at, segments };
+            }
+        }
+    }
+    Run { end: at, segments }
+}
+
 fn write_example(number: usize, text: &[u8]) {
     write_number(number);
     write(b" ");
-    match scan::scan(Service::standard(), text) {
-        Outcome::Segments(n) => {
-            if n == 1 {
-                write_segment(text, 0, b"  ");
-            } else {
-                write_number(n);
-                write(b" segments\n");
-                write_segments(text);
-            }
-        }
-        Outcome::BadAt(place) => {
-            write(b"not a segment: place ");
-            write_number(place);
-            write(b"\n");
-        }
+    let run = read_segments(text);
+    if run.end < text.len() {
+        write(b"not a segment: place ");
+        write_number(machine::find_bad(Service::standard(), text, run.end));
+        write(b"\n");
+    } else if run.segments == 1 {
+        write_segment(text, 0, b"  ");
+    } else {
+        write_number(run.segments);
+        write(b" segments\n");
+        write_segments(text);
     }
 }
 

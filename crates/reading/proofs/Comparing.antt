@@ -9,7 +9,7 @@ use lib.ListN.{length, getD, drop, drop-of-length-le}
 use lib.Dec.{eqb}
 use lib.Seq.{drop-cons}
 use borrow.Author.Tests.{eq-eqb, ne-eqb, eqb-true}
-use Rattle.reading.specs.Machine.{sameComponent}
+use Rattle.reading.specs.meaning.Component.{sameComponent}
 
 -- the answer says whether the bytes are the same
 pub same-bytes-refl : (bs : List ℕ) → sameComponent bs bs ≡ true

@@ -10,9 +10,9 @@ use lib.Dec.{eqb, ltb}
 use lib.ListN.{length, getD, drop, length-drop, drop-of-length-le}
 use lib.Seq.{drop-cons}
 use borrow.Author.Tests.{ltb-true, ltb-false}
-use Rattle.reading.specs.Service.{isData, isTagByte, mustRelease}
-use Rattle.reading.specs.Machine.{pick, kindOf, afterTag, afterTagged, afterInside, afterReleased, stepped, isText, isStart, isDead, endOn, segmentEnd, orLength}
-use Rattle.reading.specs.Kept.{TagOrNone}
+use Rattle.reading.specs.meaning.Service.{isData, isTagByte, mustRelease}
+use Rattle.reading.specs.method.Machine.{pick, kindOf, afterTag, afterTagged, afterInside, afterReleased, stepped, isText, isStart, isDead, endOn, segmentEnd, orLength}
+use Rattle.reading.specs.method.Kept.{TagOrNone}
 use Rattle.reading.specs.declared.service.Service.{Service}
 use Rattle.reading.specs.declared.bytes.Kind.{Kind}
 use Rattle.reading.specs.declared.bytes.Kind.the-variants.{Component, Element, Terminator, Release, Plain, Other}

@@ -9,13 +9,21 @@ use lib.Dec.{ltb}
 use lib.ListN.{length, getD, drop, drop-of-length-le}
 use lib.Seq.{drop-cons, drop-drop}
 use borrow.Author.Tests.{lt-ltb}
-use Rattle.reading.specs.Machine.{pick, stepped, isStart, isDead, ended, finished, scanOn, scanned, badOn, badFrom, endOn, segmentEnd}
+use Rattle.reading.specs.method.Machine.{pick, stepped, isStart, isDead, ended, finished, scanOn, scanned, badOn, badFrom, endOn, segmentEnd}
 use Rattle.reading.specs.declared.service.Service.{Service}
 use Rattle.reading.specs.declared.machine.State.{State}
 use Rattle.reading.specs.declared.machine.State.the-variants.{Start, Second, Third, Tagged, Inside, Released, Dead}
-use Rattle.reading.specs.declared.scan.Outcome.the-variants.{Segments, BadAt}
+use Rattle.reading.specs.meaning.WellFormed.{Segments, BadAt}
 use Rattle.reading.specs.declared.cursor.End.the-variants.{At, Nowhere}
 use Rattle.reading.proofs.Ending.{at-is, not-at, end-on-within, end-within}
+
+-- ---- what a scan comes to is one of two
+
+pub bad-segments : {k n : ℕ} → BadAt k ≡ Segments n → ⊥
+bad-segments e = let z : _≡_ {A = ℕ} 0 1 = cc in omega arith
+
+pub segments-is : {m n : ℕ} → Segments m ≡ Segments n → m ≡ n
+segments-is e = cc
 
 -- ---- over a segment
 

@@ -10,9 +10,9 @@ use lib.Dec.{eqb}
 use lib.ListN.{length, getD, drop, drop-of-length-le, length-drop}
 use lib.Seq.{drop-cons}
 use borrow.Author.Tests.{eq-eqb, ne-eqb}
-use Rattle.reading.specs.Service.{isData, mustRelease}
-use Rattle.reading.specs.Component.{span}
-use Rattle.reading.specs.Machine.{Seek, Sought, On, Ends, pick, kindOf, seek, isHere, endsComponent, passed, sought, goOn, seekOn, seekFrom, spanBy, componentSpan, segmentEnd}
+use Rattle.reading.specs.meaning.Service.{isData, mustRelease}
+use Rattle.reading.specs.meaning.Component.{span}
+use Rattle.reading.specs.method.Machine.{Seek, Sought, On, Ends, pick, kindOf, seek, isHere, endsComponent, passed, sought, goOn, seekOn, seekFrom, spanBy, componentSpan, segmentEnd}
 use Rattle.reading.specs.declared.service.Service.{Service}
 use Rattle.reading.specs.declared.span.Span.{Span}
 use Rattle.reading.specs.declared.bytes.Kind.{Kind}

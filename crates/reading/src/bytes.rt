@@ -1,8 +1,21 @@
-// What one byte is: the only place that tests a byte's value.
+// One byte: read wherever it may stand, and what it is. The only place that tests a byte's value.
 ghost use mathlib.Core.Path.{_≡_};
-ghost use Rattle.reading.specs.Service.{isData, isTagByte, mustRelease};
-ghost use Rattle.reading.specs.Machine.{kindOf, isText};
+ghost use Prim.Native.Nat.{_<_};
+ghost use lib.ListN.{getD};
+ghost use Rattle.reading.specs.meaning.Digit.{isDigit};
+ghost use Rattle.reading.specs.meaning.Service.{isData, isTagByte, mustRelease};
+ghost use Rattle.reading.specs.method.Machine.{kindOf, isText};
 use crate::service::Service;
+
+// The byte at an offset; 0 past the end.
+pub fn byte_at(bytes: &[u8], at: usize) -> u32
+    ensures { λ r. ⌜ (r ≡ getD (now (bytes .entry)) at 0) × (r < 256) ⌝ }
+{
+    if at < bytes.len() {
+        return bytes[at] as u32;
+    }
+    0
+}
 
 // What a byte is, under given service characters.
 pub enum Kind {
@@ -45,6 +58,15 @@ pub fn is_tag_byte(byte: u8) -> bool
         return true;
     }
     false
+}
+
+pub fn is_digit(byte: u8) -> bool
+    ensures { λ r. ⌜ r ≡ isDigit byte ⌝ }
+{
+    if byte < b'0' {
+        return false;
+    }
+    byte <= b'9'
 }
 
 pub fn kind_of(service: Service, byte: u8) -> Kind

@@ -1,6 +1,6 @@
 // Two components, compared by value.
 ghost use mathlib.Core.Path.{_≡_};
-ghost use Rattle.reading.specs.Machine.{sameComponent};
+ghost use Rattle.reading.specs.meaning.Component.{sameComponent};
 
 // Two components have the same value exactly when they have the same bytes (law raw-is-value): nothing is released
 // that need not be.

@@ -1,6 +1,6 @@
 // A reading place that moves on from segment to segment.
 ghost use mathlib.Core.Path.{_≡_};
-ghost use Rattle.reading.specs.Machine.{segmentEnd, nextSegment};
+ghost use Rattle.reading.specs.method.Machine.{segmentEnd, nextSegment};
 use crate::segment;
 use crate::service::Service;
 use crate::span::Span;

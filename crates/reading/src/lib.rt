@@ -1,5 +1,5 @@
 // The reading of bytes: what stands at the bottom and knows nothing of guide books.
-// 01, "Bytes of a message", has the rules; to be read in this order: service, bytes, machine, segment, scan, span, cursor,
+// 01, "Bytes of a message", has the rules; to be read in this order: service, bytes, machine, segment, span, cursor,
 // lookup, compare, tag, limits.
 pub mod bytes;
 pub mod compare;
@@ -7,7 +7,6 @@ pub mod cursor;
 pub mod limits;
 pub mod lookup;
 pub mod machine;
-pub mod scan;
 pub mod segment;
 pub mod service;
 pub mod span;

@@ -2,8 +2,8 @@
 ghost use mathlib.Core.Path.{_≡_};
 ghost use mathlib.Core.Bool.{_&&_};
 ghost use lib.Dec.{eqb};
-ghost use Rattle.reading.specs.Machine.{seekFrom, componentSpan};
-ghost use Rattle.reading.specs.Part.{IsComponent};
+ghost use Rattle.reading.specs.method.Machine.{seekFrom, componentSpan};
+ghost use Rattle.reading.specs.method.Part.{IsComponent};
 use crate::bytes;
 use crate::bytes::Kind;
 use crate::cursor;

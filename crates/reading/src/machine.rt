@@ -1,7 +1,7 @@
-// One byte more: the state that reading keeps between bytes, and how a byte moves it.
+// One byte more: the state that reading keeps between bytes, and how a byte moves it. Where a message goes wrong is asked byte by byte.
 ghost use mathlib.Core.Path.{_≡_};
-ghost use Rattle.reading.specs.Service.{isTagByte};
-ghost use Rattle.reading.specs.Machine.{afterTag, afterTagged, afterInside, afterReleased, stepped, isDead};
+ghost use Rattle.reading.specs.meaning.Service.{isTagByte};
+ghost use Rattle.reading.specs.method.Machine.{afterTag, afterTagged, afterInside, afterReleased, stepped, isDead, badFrom};
 use crate::bytes;
 use crate::bytes::Kind;
 use crate::service::Service;
@@ -94,4 +94,20 @@ pub fn is_dead(state: State) -> bool
         State::Released => false,
         State::Dead => true,
     }
+}
+
+// The first bad byte from an offset on, where a segment's tag is to start; the end if there is none.
+pub fn find_bad(service: Service, message: &[u8], from: usize) -> usize
+    ensures { λ r. ⌜ r ≡ badFrom service (now (message .entry)) from ⌝ }
+{
+    let mut state = State::Start;
+    let mut at = from;
+    while at < message.len() {
+        state = step(service, state, message[at]);
+        if is_dead(state) {
+            return at;
+        }
+        at += 1;
+    }
+    at
 }

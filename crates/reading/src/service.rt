@@ -1,6 +1,6 @@
 // The service characters, as a value: every reader below takes them, so that a file may name its own.
 ghost use mathlib.Core.Path.{_≡_};
-ghost use Rattle.reading.specs.Service.{standard};
+ghost use Rattle.reading.specs.meaning.Service.{standard};
 
 // The five, in the order in which an interchange names them.
 pub struct Service {

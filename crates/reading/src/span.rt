@@ -1,6 +1,6 @@
 // A part of a message, as two numbers.
 ghost use mathlib.Core.Path.{_≡_};
-ghost use Rattle.reading.specs.Component.{span};
+ghost use Rattle.reading.specs.meaning.Component.{span};
 
 // From the offset `start` up to, and not including, the offset `end`.
 pub struct Span {

@@ -1,18 +1,13 @@
 // The tag of a segment, as the number that a guide book's line has for it.
 ghost use mathlib.Core.Path.{_≡_};
 ghost use Prim.Native.Nat.{_<_, _^_};
-ghost use lib.ListN.{getD};
-ghost use Rattle.reading.specs.Tag.{tagAt};
+ghost use Rattle.reading.specs.method.Tag.{tagAt};
+use crate::bytes;
 
-// The byte at an offset; 0 past the end.
-fn byte_at(message: &[u8], at: usize) -> u32
-    ensures { λ r. ⌜ (r ≡ getD (now (message .entry)) at 0) × (r < 256) ⌝ }
-{
-    if at < message.len() {
-        return message[at] as u32;
-    }
-    0
-}
+// The tags of a message's first segment and its last, as numbers.
+pub const UNH: u32 = 0x484e55;
+
+pub const UNT: u32 = 0x544e55;
 
 // The tag of the segment that starts at an offset: its three bytes as one number, the first one lowest.
 pub fn tag_at(message: &[u8], at: usize) -> u32
@@ -21,5 +16,7 @@ pub fn tag_at(message: &[u8], at: usize) -> u32
     if message.len() <= at {
         return 0;
     }
-    byte_at(message, at) + 256 * byte_at(message, at + 1) + 65536 * byte_at(message, at + 2)
+    bytes::byte_at(message, at)
+        + 256 * bytes::byte_at(message, at + 1)
+        + 65536 * bytes::byte_at(message, at + 2)
 }

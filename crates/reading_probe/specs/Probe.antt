@@ -1,17 +1,17 @@
--- The answers of the reading as single numbers, for tests in C and Rust.
-use Prim.Native.Nat.{ℕ}
-use Rattle.reading.specs.declared.scan.Outcome.{Outcome}
-use Rattle.reading.specs.declared.scan.Outcome.the-variants.{Segments, BadAt}
+-- The answers of the message stage and of the reading as single numbers, for tests in C and Rust.
+use Prim.Native.Nat.{ℕ, _+_, _*_, _^_}
+use Rattle.framing.specs.declared.message.Room.{Room}
+use Rattle.framing.specs.declared.verdict.Verdict.{Verdict}
 use Rattle.reading.specs.declared.cursor.Found.{Found}
 use Rattle.reading.specs.declared.cursor.Found.the-variants.{Segment, Nothing}
 
-abbrev pub countOf : Outcome → ℕ
-countOf (Segments n) = n
-countOf (BadAt k) = 0
+-- the table's number above, the place below
+abbrev pub packed : Verdict → ℕ
+packed v = v .number * 2 ^ 32 + v .place .at
 
-abbrev pub placeOf : ℕ → Outcome → ℕ
-placeOf none (Segments n) = none
-placeOf none (BadAt k) = k
+-- room for every message that number 5 lets pass
+abbrev pub ample : Room
+ample = record { starts = 1000000; homes = 1000000; parents = 1000000 }
 
 abbrev pub nextOf : Found → ℕ
 nextOf (Segment x next) = next .at

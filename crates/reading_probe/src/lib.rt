@@ -1,38 +1,31 @@
-// For the tests alone: the scan and the cursor as functions on numbers and slices, so that Rust and C can call them.
+// For the tests alone: the message stage and the cursor as functions on numbers and slices, so that Rust and C can call them.
 // The C door that is shipped, crate tracksaddle, does not have them.
 ghost use mathlib.Core.Path.{_≡_};
-ghost use Prim.Native.Nat.{_+_};
-ghost use lib.ListN.{length};
-ghost use Rattle.reading_probe.specs.Probe.{countOf, placeOf, nextOf};
-ghost use Rattle.reading.specs.Machine.{scanned, nextSegment};
-ghost use Rattle.reading.specs.Service.{standard};
+ghost use Prim.Native.Nat.{_-_, _^_};
+ghost use Rattle.reading_probe.specs.Probe.{packed, ample, nextOf};
+ghost use Rattle.reading.specs.method.Machine.{nextSegment};
+ghost use Rattle.reading.specs.meaning.Service.{standard};
+ghost use Rattle.framing.specs.method.Stages.{messageStage};
+use framing::Room;
 use reading::cursor::Cursor;
 use reading::cursor::Found;
-use reading::scan;
-use reading::scan::Outcome;
 use reading::service::Service;
 
-// The segments of a well-formed message; 0 for any other.
-#[no_mangle]
-pub extern "C" fn probe_segments(message: &[u8]) -> usize
-    ensures { λ r. ⌜ r ≡ countOf (scanned standard (now (message .entry))) ⌝ }
-{
-    match scan::scan(Service::standard(), message) {
-        Outcome::Segments(n) => n,
-        Outcome::BadAt(_) => 0,
-    }
-}
+// More entries than any message that passes number 5 has segments.
+const AMPLE: usize = 1_000_000;
 
-// Number 4's place; one more than the length for a well-formed message.
+// 01's numbers 3 to 9 and the place, or 0 and the segment count: the number in the upper half, the place in the lower.
 #[no_mangle]
-pub extern "C" fn probe_bad_place(message: &[u8]) -> usize
-    ensures { λ r. ⌜ r ≡ placeOf (length (now (message .entry)) + 1) (scanned standard (now (message .entry))) ⌝ }
+pub extern "C" fn probe_message(message: &[u8]) -> u64
+    ensures { λ r. ⌜ r ≡ packed (messageStage standard (now (message .entry)) ample) ⌝ }
 {
-    let none = message.len() + 1;
-    match scan::scan(Service::standard(), message) {
-        Outcome::Segments(_) => none,
-        Outcome::BadAt(place) => place,
-    }
+    let room = Room {
+        starts: AMPLE,
+        homes: AMPLE,
+        parents: AMPLE,
+    };
+    let verdict = framing::message_stage(Service::standard(), message, room);
+    verdict.number as u64 * 0x1_0000_0000 + verdict.place.at as u64
 }
 
 // The offset behind the segment that starts at an offset; 0 where none does.

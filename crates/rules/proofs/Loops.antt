@@ -7,21 +7,22 @@ use mathlib.Core.Path.{_≡_, refl, sym, ap, _∙_}
 use mathlib.Core.List.{List, [], _∷_, map}
 use mathlib.Core.Bool.{Bool, true, false, not, cond, _&&_, true≢false, false≢true}
 use lib.Dec.{eqb, ltb}
-use lib.ListN.{length, getD, drop}
+use lib.ListN.{length, getD, drop, List·getD-eq-default}
 use lib.Seq.{drop-cons, drop-length}
 use borrow.Author.Tests.{eq-eqb, ne-eqb, lt-ltb, le-ltb}
-use Rattle.book.specs.Guide.{Guide}
-use Rattle.book.specs.View.{inUse}
+use Rattle.book.specs.meaning.Guide.{Guide}
+use Rattle.book.specs.meaning.View.{inUse}
 use native.Mathlib.Nat.{mul-le-mul}
-use Rattle.placing.specs.Plan.{Plan, deep, opening}
-use Rattle.placing.specs.Tree.{climb}
-use Rattle.reading.specs.Machine.{sameComponent}
-use Rattle.rules.specs.Conditions.{said, isUnknown, firstUnknown}
-use Rattle.rules.specs.Rows.{conditionNumber, conditionsOf}
-use Rattle.rules.specs.Scanning.{guessed, joined, reading, readRow, rowNumbered, noted}
-use Rattle.rules.specs.Spans.{spanned}
-use Rattle.rules.specs.Identifiers.{identifierValue, identifiedFrom}
-use Rattle.rules.specs.declared.instances.Span.{Span}
+use Rattle.placing.specs.meaning.Plan.{Plan, deep, opening}
+use Rattle.placing.specs.meaning.Tree.{climb}
+use Rattle.reading.specs.meaning.Component.{sameComponent}
+use Rattle.rules.specs.meaning.Conditions.{said, isUnknown, firstUnknown}
+use Rattle.rules.specs.meaning.Rows.{conditionNumber, conditionsOf}
+use Rattle.rules.specs.method.Scanning.{guessed, joined, reading, readRow, rowNumbered, noted}
+use Rattle.rules.specs.method.Laps.{lapFrom}
+use Rattle.rules.specs.meaning.Identifiers.{identifierValue}
+use Rattle.rules.specs.method.Identifiers.{identifiedFrom}
+use Rattle.rules.specs.declared.instances.Lap.{Lap}
 use Rattle.rules.specs.declared.identifier.Identified.the-variants.{Known, Foreign}
 
 -- so many values of a function, from k on
@@ -186,20 +187,20 @@ module _ (b : Plan) where
 -- ---- the pass over one instance
 
 module _ (o s : ℕ) where
-  pub span-stop : (seen j : ℕ) (hs : List ℕ) → j < length hs → getD hs j 0 ≡ o
-      → _≡_ {A = Span} (record { seen = seen; next = j + 1 }) (spanned o s seen (suc j) (drop j hs))
-  unfolding spanned
-  span-stop seen j hs h e = rw (drop-cons hs j 0, eq-eqb (getD hs j 0) o e, add-one j)
+  pub lap-stop : (seen j : ℕ) (hs : List ℕ) → j < length hs → getD hs j 0 ≡ o
+      → _≡_ {A = Lap} (record { seen = seen; next = j + 1 }) (lapFrom o s seen (suc j) (drop j hs))
+  unfolding lapFrom
+  lap-stop seen j hs h e = rw (drop-cons hs j 0, eq-eqb (getD hs j 0) o e, add-one j)
 
-  pub span-on : (seen j : ℕ) (hs : List ℕ) → j < length hs → (getD hs j 0 ≡ o → ⊥)
-      → spanned o s seen (suc j) (drop j hs) ≡ spanned o s (noted (getD hs j 0) s seen (j + 1)) (suc (j + 1)) (drop (j + 1) hs)
-  unfolding spanned
-  span-on seen j hs h e = rw (drop-cons hs j 0, ne-eqb (getD hs j 0) o e, add-one j) refl
+  pub lap-on : (seen j : ℕ) (hs : List ℕ) → j < length hs → (getD hs j 0 ≡ o → ⊥)
+      → lapFrom o s seen (suc j) (drop j hs) ≡ lapFrom o s (noted (getD hs j 0) s seen (j + 1)) (suc (j + 1)) (drop (j + 1) hs)
+  unfolding lapFrom
+  lap-on seen j hs h e = rw (drop-cons hs j 0, ne-eqb (getD hs j 0) o e, add-one j) refl
 
-  pub span-end : (seen j : ℕ) (hs : List ℕ) → j ≤ length hs → length hs ≤ j
-      → _≡_ {A = Span} (record { seen = seen; next = j + 1 }) (spanned o s seen (suc j) (drop j hs))
-  unfolding spanned
-  span-end seen j hs h e =
+  pub lap-end : (seen j : ℕ) (hs : List ℕ) → j ≤ length hs → length hs ≤ j
+      → _≡_ {A = Lap} (record { seen = seen; next = j + 1 }) (lapFrom o s seen (suc j) (drop j hs))
+  unfolding lapFrom
+  lap-end seen j hs h e =
       let q : j ≡ length hs = omega arith in
       let d : drop j hs ≡ [] = ap (λ (k : ℕ). drop k hs) q ∙ drop-length hs in
       rw (d, add-one j)
@@ -256,3 +257,12 @@ module _ (g : Guide) (value : List ℕ) where
 
   pub identified-all : identifiedFrom g value 0 (g .identifiers - 0) ≡ identifiedFrom g value 0 (g .identifiers)
   identified-all = let e : g .identifiers - 0 ≡ g .identifiers = omega arith in ap (identifiedFrom g value 0) e
+
+-- ---- what is said of a condition
+
+pub said-in : (cs : List ℕ) (k : ℕ) → (k ≡ 0 → ⊥) → getD cs (k - 1) 0 ≡ said cs k
+said-in cs zero h = absurd (h refl)
+said-in cs (suc j) h = let e : suc j - 1 ≡ j = omega arith in ap (λ (i : ℕ). getD cs i 0) e
+
+pub said-past : (cs : List ℕ) (k : ℕ) → (k ≡ 0 → ⊥) → length cs ≤ k - 1 → 0 ≡ said cs k
+said-past cs k h l = sym (List·getD-eq-default cs 0 l) ∙ said-in cs k h

@@ -1,4 +1,4 @@
--- What the two nested loops keep. From an instance on, the instances that are left are the one whose span was just found and those
+-- What the two nested loops keep. From an instance on, the instances that are left are the one whose lap was just found and those
 -- from the next trigger on; so a row that is kept leaves the first finding to the rest, and one that is not is the first finding.
 use Prim.Native.Nat.{ℕ, zero, suc, _+_, _-_, _≤_, _<_}
 use native.Mathlib.Omega.{arith}
@@ -9,10 +9,10 @@ use mathlib.Core.Bool.{Bool, true, false, cond, true≢false, false≢true}
 use lib.Dec.{eqb, leb}
 use lib.ListN.{length, drop, length-drop}
 use borrow.Author.Tests.{le-leb, lt-leb, lt-ltb, le-ltb}
-use Rattle.book.specs.Guide.{Guide}
-use Rattle.rules.specs.Scanning.{Instance, instanceOf, noted, begun, instancesFrom, behindFirst, watchOf, isIdle, reportIn, isKept, firstFound, scannedIn, scannedLine, scannedFrom, scannedRow}
-use Rattle.rules.specs.Spans.{spanned, firstInstance}
-use Rattle.rules.specs.declared.instances.Span.{Span}
+use Rattle.book.specs.meaning.Guide.{Guide}
+use Rattle.rules.specs.method.Scanning.{Instance, instanceOf, noted, begun, instancesFrom, behindFirst, watchOf, isIdle, reportIn, isKept, firstFound, scannedIn, scannedLine, scannedFrom, scannedRow}
+use Rattle.rules.specs.method.Laps.{lapFrom, firstInstance}
+use Rattle.rules.specs.declared.instances.Lap.{Lap}
 use Rattle.rules.specs.declared.watch.Watch.{Watch}
 use Rattle.rules.specs.declared.finding.Finding.{Finding}
 use Rattle.rules.specs.declared.finding.Finding.the-variants.{Kept, Broken, Unsettled}
@@ -44,20 +44,20 @@ following-past : (o s : ℕ) (hs : List ℕ) (t : ℕ) → length hs < t → fol
 following-past o s hs t h = ap (λ (b : Bool). cond b (instancesFrom o s t (begun o s t) (suc t) (drop t hs)) []) (lt-leb t (length hs) h)
 
 -- one instance, and those behind it
-spans : (o s : ℕ) (homes : List ℕ) (t i seen : ℕ) (hs : List ℕ) → hs ≡ drop i homes
-    → instancesFrom o s t seen (suc i) hs ≡ instanceOf t (spanned o s seen (suc i) hs .seen) ∷ following o s homes (spanned o s seen (suc i) hs .next)
-unfolding instancesFrom spanned
-spans o s homes t i seen [] e = ap (λ (is : List Instance). instanceOf t seen ∷ is) (sym (following-past o s homes (suc i) (let q = end-drop homes i e in omega arith)))
-spans o s homes t i seen (h ∷ hs) e = go (eqb h o) (spans o s homes t (suc i) (noted h s seen (suc i)) hs rest)
+laps : (o s : ℕ) (homes : List ℕ) (t i seen : ℕ) (hs : List ℕ) → hs ≡ drop i homes
+    → instancesFrom o s t seen (suc i) hs ≡ instanceOf t (lapFrom o s seen (suc i) hs .seen) ∷ following o s homes (lapFrom o s seen (suc i) hs .next)
+unfolding instancesFrom lapFrom
+laps o s homes t i seen [] e = ap (λ (is : List Instance). instanceOf t seen ∷ is) (sym (following-past o s homes (suc i) (let q = end-drop homes i e in omega arith)))
+laps o s homes t i seen (h ∷ hs) e = go (eqb h o) (laps o s homes t (suc i) (noted h s seen (suc i)) hs rest)
   where
     rest : hs ≡ drop (suc i) homes
     rest = tail-drop homes i h hs e
 
     go : (b : Bool) → instancesFrom o s t (noted h s seen (suc i)) (suc (suc i)) hs
-        ≡ instanceOf t (spanned o s (noted h s seen (suc i)) (suc (suc i)) hs .seen) ∷ following o s homes (spanned o s (noted h s seen (suc i)) (suc (suc i)) hs .next)
+        ≡ instanceOf t (lapFrom o s (noted h s seen (suc i)) (suc (suc i)) hs .seen) ∷ following o s homes (lapFrom o s (noted h s seen (suc i)) (suc (suc i)) hs .next)
         → cond b (instanceOf t seen ∷ instancesFrom o s (suc i) (begun o s (suc i)) (suc (suc i)) hs) (instancesFrom o s t (noted h s seen (suc i)) (suc (suc i)) hs)
-        ≡ instanceOf t ((cond b (record { seen = seen; next = suc i }) (spanned o s (noted h s seen (suc i)) (suc (suc i)) hs)) .seen)
-        ∷ following o s homes ((cond b (record { seen = seen; next = suc i }) (spanned o s (noted h s seen (suc i)) (suc (suc i)) hs)) .next)
+        ≡ instanceOf t ((cond b (record { seen = seen; next = suc i }) (lapFrom o s (noted h s seen (suc i)) (suc (suc i)) hs)) .seen)
+        ∷ following o s homes ((cond b (record { seen = seen; next = suc i }) (lapFrom o s (noted h s seen (suc i)) (suc (suc i)) hs)) .next)
     go true x =
         ap (λ (is : List Instance). instanceOf t seen ∷ is)
         (ap (instancesFrom o s (suc i) (begun o s (suc i)) (suc (suc i))) rest ∙ sym (following-in o s homes (suc i) (in-drop homes i h hs e)))
@@ -100,7 +100,7 @@ module _ (w : Watch) (l : ℕ) (hs : List ℕ) (rest : Finding) where
   line-begins = go (isIdle w) (eqb (w .trigger) 0)
     where
       go : (idle root : Bool)
-          → foundFrom (cond idle (suc (length hs)) (cond root 0 (spanned (w .trigger) (w .sign) (begun (w .trigger) (w .sign) 0) 1 hs .next)))
+          → foundFrom (cond idle (suc (length hs)) (cond root 0 (lapFrom (w .trigger) (w .sign) (begun (w .trigger) (w .sign) 0) 1 hs .next)))
           ≡ cond idle rest (scannedIn w l (cond root (instancesFrom (w .trigger) (w .sign) 0 0 1 hs) (behindFirst (instancesFrom (w .trigger) (w .sign) 0 0 1 hs))) rest)
       go true root =
           ap (λ (is : List Instance). scannedIn w l is rest) (following-past (w .trigger) (w .sign) hs (suc (length hs)) (omega arith)) ∙ scanned-nil w l rest
@@ -111,28 +111,28 @@ module _ (w : Watch) (l : ℕ) (hs : List ℕ) (rest : Finding) where
           ap (λ (is : List Instance). scannedIn w l is rest)
           (sym (ap behindFirst
           (ap (λ (z : ℕ). instancesFrom (w .trigger) (w .sign) 0 z 1 hs) (sym (begun-root (w .trigger) (w .sign)))
-          ∙ spans (w .trigger) (w .sign) hs 0 0 (begun (w .trigger) (w .sign) 0) hs refl)))
+          ∙ laps (w .trigger) (w .sign) hs 0 0 (begun (w .trigger) (w .sign) 0) hs refl)))
 
   -- one instance
-  instance-found : (t : ℕ) (span : Span) (f : Finding) → t ≤ length hs
-      → span ≡ spanned (w .trigger) (w .sign) (begun (w .trigger) (w .sign) t) (suc t) (drop t hs) → f ≡ reportIn w l (instanceOf t (span .seen))
-      → foundFrom t ≡ firstFound f (foundFrom (span .next))
-  instance-found t span f h e r =
+  instance-found : (t : ℕ) (lap : Lap) (f : Finding) → t ≤ length hs
+      → lap ≡ lapFrom (w .trigger) (w .sign) (begun (w .trigger) (w .sign) t) (suc t) (drop t hs) → f ≡ reportIn w l (instanceOf t (lap .seen))
+      → foundFrom t ≡ firstFound f (foundFrom (lap .next))
+  instance-found t lap f h e r =
       ap (λ (is : List Instance). scannedIn w l is rest)
-      (following-in (w .trigger) (w .sign) hs t h ∙ spans (w .trigger) (w .sign) hs t t (begun (w .trigger) (w .sign) t) (drop t hs) refl
-      ∙ ap (λ (v : Span). instanceOf t (v .seen) ∷ following (w .trigger) (w .sign) hs (v .next)) (sym e))
-      ∙ scanned-cons w l (instanceOf t (span .seen)) (following (w .trigger) (w .sign) hs (span .next)) rest
-      ∙ ap (λ (x : Finding). firstFound x (foundFrom (span .next))) (sym r)
+      (following-in (w .trigger) (w .sign) hs t h ∙ laps (w .trigger) (w .sign) hs t t (begun (w .trigger) (w .sign) t) (drop t hs) refl
+      ∙ ap (λ (v : Lap). instanceOf t (v .seen) ∷ following (w .trigger) (w .sign) hs (v .next)) (sym e))
+      ∙ scanned-cons w l (instanceOf t (lap .seen)) (following (w .trigger) (w .sign) hs (lap .next)) rest
+      ∙ ap (λ (x : Finding). firstFound x (foundFrom (lap .next))) (sym r)
 
-  pub instance-kept : (t : ℕ) (span : Span) (f : Finding) → t ≤ length hs
-      → span ≡ spanned (w .trigger) (w .sign) (begun (w .trigger) (w .sign) t) (suc t) (drop t hs) → f ≡ reportIn w l (instanceOf t (span .seen))
-      → isKept f ≡ true → foundFrom (span .next) ≡ foundFrom t
-  instance-kept t span f h e r k = sym (instance-found t span f h e r ∙ first-kept f (foundFrom (span .next)) k)
+  pub instance-kept : (t : ℕ) (lap : Lap) (f : Finding) → t ≤ length hs
+      → lap ≡ lapFrom (w .trigger) (w .sign) (begun (w .trigger) (w .sign) t) (suc t) (drop t hs) → f ≡ reportIn w l (instanceOf t (lap .seen))
+      → isKept f ≡ true → foundFrom (lap .next) ≡ foundFrom t
+  instance-kept t lap f h e r k = sym (instance-found t lap f h e r ∙ first-kept f (foundFrom (lap .next)) k)
 
-  pub instance-not-kept : (t : ℕ) (span : Span) (f : Finding) → t ≤ length hs
-      → span ≡ spanned (w .trigger) (w .sign) (begun (w .trigger) (w .sign) t) (suc t) (drop t hs) → f ≡ reportIn w l (instanceOf t (span .seen))
+  pub instance-not-kept : (t : ℕ) (lap : Lap) (f : Finding) → t ≤ length hs
+      → lap ≡ lapFrom (w .trigger) (w .sign) (begun (w .trigger) (w .sign) t) (suc t) (drop t hs) → f ≡ reportIn w l (instanceOf t (lap .seen))
       → isKept f ≡ false → f ≡ foundFrom t
-  instance-not-kept t span f h e r k = sym (instance-found t span f h e r ∙ first-other f (foundFrom (span .next)) k)
+  instance-not-kept t lap f h e r k = sym (instance-found t lap f h e r ∙ first-other f (foundFrom (lap .next)) k)
 
   pub line-ends : (t : ℕ) → length hs < t → rest ≡ foundFrom t
   line-ends t h = sym (ap (λ (is : List Instance). scannedIn w l is rest) (following-past (w .trigger) (w .sign) hs t h) ∙ scanned-nil w l rest)

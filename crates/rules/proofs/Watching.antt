@@ -4,14 +4,14 @@ use mathlib.Core.Path.{_≡_, refl, sym, ap, _∙_}
 use mathlib.Core.List.{List}
 use mathlib.Core.Bool.{Bool, true, false, cond, _&&_, _||_, true≢false, false≢true}
 use borrow.Author.Tests.{eq-eqb, ne-eqb}
-use Rattle.book.specs.Guide.{Guide}
-use Rattle.book.specs.View.{Row, rowNumber, rowOf}
-use Rattle.placing.specs.Plan.{planOf, opening}
-use Rattle.placing.specs.Tree.{owner}
-use Rattle.rules.specs.Conditions.{firstUnknown}
-use Rattle.rules.specs.Rows.{conditionsOf, isBroken}
-use Rattle.rules.specs.Instances.{shownBy}
-use Rattle.rules.specs.Scanning.{readRow, rowNumbered, weighed, breachOf, breachIn, watchOf}
+use Rattle.book.specs.meaning.Guide.{Guide}
+use Rattle.book.specs.meaning.View.{Row, rowNumber, rowOf}
+use Rattle.placing.specs.meaning.Plan.{planOf, opening}
+use Rattle.placing.specs.meaning.Tree.{owner}
+use Rattle.rules.specs.meaning.Conditions.{firstUnknown}
+use Rattle.rules.specs.meaning.Rows.{conditionsOf, isBroken}
+use Rattle.rules.specs.meaning.Instances.{shownBy}
+use Rattle.rules.specs.method.Scanning.{readRow, rowNumbered, weighed, breachOf, breachIn, watchOf}
 use Rattle.rules.specs.declared.breach.Breach.{Breach}
 use Rattle.rules.specs.declared.breach.Breach.the-variants.{Never, Always, Sometimes}
 use Rattle.rules.specs.declared.watch.Watch.{Watch}

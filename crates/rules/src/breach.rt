@@ -2,12 +2,17 @@
 // can make of it.
 ghost use mathlib.Core.Path.{_≡_};
 ghost use mathlib.Core.Bool.{cond, not};
-ghost use Rattle.book.specs.Guide.{guideOf};
-ghost use Rattle.rules.specs.Conditions.{firstUnknown};
-ghost use Rattle.rules.specs.Rows.{isBroken, conditionsOf};
-ghost use Rattle.rules.specs.Scanning.{readRow, breachOf, isNever, rowNumbered};
+ghost use Rattle.book.specs.meaning.Guide.{guideOf};
+ghost use Rattle.rules.specs.meaning.Conditions.{firstUnknown};
+ghost use Rattle.rules.specs.meaning.Rows.{isBroken, conditionsOf};
+ghost use Rattle.rules.specs.method.Scanning.{readRow, breachOf, isNever, rowNumbered};
 use crate::conditions;
 use book::layout;
+use book::words::JOINT_ANY;
+use book::words::MODE_MAY_IF;
+use book::words::MODE_MUST;
+use book::words::MODE_MUST_IF;
+use book::words::MODE_NEVER;
 
 // In which fillings a row is broken; where in some only, with the lowest unknown condition of the row.
 pub enum Breach {
@@ -33,7 +38,7 @@ fn decides(any: bool, value: bool) -> bool
 fn read_row(book: &[u8], row: u32, conditions: &[u8], guess: bool) -> bool
     ensures { λ r. ⌜ r ≡ readRow (now (conditions .entry)) guess (rowNumbered (guideOf (now (book .entry))) row) ⌝ }
 {
-    let any = layout::joint(book, row) == 2;
+    let any = layout::joint(book, row) == JOINT_ANY;
     let mut next: u32 = 0;
     while next < ROOM {
         let literal = layout::condition(book, row, next);
@@ -70,19 +75,19 @@ fn lowest_unknown(book: &[u8], row: u32, conditions: &[u8]) -> u32
 fn is_broken(mode: u32, present: bool, value: bool) -> bool
     ensures { λ r. ⌜ r ≡ isBroken mode present value ⌝ }
 {
-    if mode == 0 {
+    if mode == MODE_NEVER {
         return present;
     }
-    if mode == 1 {
+    if mode == MODE_MUST {
         return !present;
     }
-    if mode == 3 {
+    if mode == MODE_MUST_IF {
         if present {
             return !value;
         }
         return value;
     }
-    if mode == 4 {
+    if mode == MODE_MAY_IF {
         if present {
             return !value;
         }

@@ -1,7 +1,7 @@
 // What the caller says of the conditions.
 ghost use mathlib.Core.Path.{_≡_};
-ghost use Rattle.rules.specs.Conditions.{said};
-ghost use Rattle.rules.specs.Scanning.{guessed};
+ghost use Rattle.rules.specs.meaning.Conditions.{said};
+ghost use Rattle.rules.specs.method.Scanning.{guessed};
 
 // 0 false, 1 true, 2 unknown; a condition that the caller does not name is 0.
 pub fn said_of(conditions: &[u8], condition: u32) -> u32

@@ -3,8 +3,8 @@
 ghost use mathlib.Core.Path.{_≡_};
 ghost use Prim.Native.Nat.{_<_, _^_};
 ghost use lib.ListN.{length, take};
-ghost use Rattle.book.specs.Guide.{guideOf};
-ghost use Rattle.rules.specs.Scanning.{isKept, scannedFrom, scannedRow};
+ghost use Rattle.book.specs.meaning.Guide.{guideOf};
+ghost use Rattle.rules.specs.method.Scanning.{isKept, scannedFrom, scannedRow};
 use crate::finding::Finding;
 use crate::instances;
 use crate::watch;
@@ -34,13 +34,13 @@ fn scan_rows(book: &[u8], identifier: u32, conditions: &[u8], homes: &[u32]) -> 
         let watch = watch::watch_line(book, identifier, conditions, line);
         let mut instance = watch::first_instance(homes, watch);
         while instance <= homes.len() {
-            let span = instances::span_of(homes, watch.trigger, watch.sign, instance);
-            let found = watch::report(watch, line, instance, span.seen);
+            let lap = instances::lap_of(homes, watch.trigger, watch.sign, instance);
+            let found = watch::report(watch, line, instance, lap.seen);
             if !is_kept(found) {
                 answer = found;
                 break 'rows;
             }
-            instance = span.next;
+            instance = lap.next;
         }
     }
     answer

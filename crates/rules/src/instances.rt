@@ -2,16 +2,17 @@
 ghost use mathlib.Core.Path.{_≡_};
 ghost use Prim.Native.Nat.{suc, _<_, _≤_};
 ghost use lib.ListN.{length, drop};
-ghost use Rattle.placing.specs.Plan.{planIn, opening};
-ghost use Rattle.placing.specs.Tree.{owner};
-ghost use Rattle.rules.specs.Instances.{shownBy};
-ghost use Rattle.rules.specs.Scanning.{noted, begun};
-ghost use Rattle.rules.specs.Spans.{spanned};
+ghost use Rattle.placing.specs.meaning.Plan.{planIn, opening};
+ghost use Rattle.placing.specs.meaning.Tree.{owner};
+ghost use Rattle.rules.specs.meaning.Instances.{shownBy};
+ghost use Rattle.rules.specs.method.Scanning.{noted, begun};
+ghost use Rattle.rules.specs.method.Laps.{lapFrom};
 use book::layout;
+use book::words::KIND_GROUP;
 
 // In one instance: the first segment that shows the line, 0 if there is none, and the trigger of the next instance, one behind
 // the last segment if there is none.
-pub struct Span {
+pub struct Lap {
     pub seen: usize,
     pub next: usize,
 }
@@ -48,7 +49,7 @@ pub fn sign_of(book: &[u8], line: u32) -> u32
     requires { ⌜ line < 65536 ⌝ }
     ensures { λ r. ⌜ r ≡ shownBy (planIn (now (book .entry))) line ⌝ }
 {
-    if layout::kind(book, line) == 2 {
+    if layout::kind(book, line) == KIND_GROUP {
         return line + 1;
     }
     line
@@ -78,9 +79,9 @@ fn note(home: u32, sign: u32, seen: usize, segment: usize) -> usize
 }
 
 // What lies in the instance whose trigger is this segment; the message is instance 0.
-pub fn span_of(homes: &[u32], trigger: u32, sign: u32, instance: usize) -> Span
+pub fn lap_of(homes: &[u32], trigger: u32, sign: u32, instance: usize) -> Lap
     requires { ⌜ instance ≤ length (now homes) ⌝ }
-    ensures { λ r. ⌜ (r ≡ spanned trigger sign (begun trigger sign instance) (suc instance) (drop instance (now (homes .entry)))) × ((r .seen ≤ length (now (homes .entry))) × (instance < r .next)) ⌝ }
+    ensures { λ r. ⌜ (r ≡ lapFrom trigger sign (begun trigger sign instance) (suc instance) (drop instance (now (homes .entry)))) × ((r .seen ≤ length (now (homes .entry))) × (instance < r .next)) ⌝ }
 {
     let mut seen = begin(trigger, sign, instance);
     let mut next = instance;
@@ -88,11 +89,11 @@ pub fn span_of(homes: &[u32], trigger: u32, sign: u32, instance: usize) -> Span
         let home = homes[next];
         next += 1;
         if home == trigger {
-            return Span { seen, next };
+            return Lap { seen, next };
         }
         seen = note(home, sign, seen, next);
     }
-    Span {
+    Lap {
         seen,
         next: next + 1,
     }

@@ -3,11 +3,11 @@ ghost use mathlib.Core.Path.{_≡_};
 ghost use Prim.Native.Nat.{_<_, _≤_, _^_};
 ghost use mathlib.Core.Bool.{cond};
 ghost use lib.Dec.{eqb};
-ghost use Rattle.book.specs.Guide.{guideOf};
-ghost use Rattle.book.specs.View.{rowNumber};
-ghost use Rattle.rules.specs.Instances.{placeIn};
-ghost use Rattle.rules.specs.Scanning.{breachIn, watchOf, isIdle, reportIn, reportOf, instanceOf};
-ghost use Rattle.rules.specs.Spans.{firstInstance};
+ghost use Rattle.book.specs.meaning.Guide.{guideOf};
+ghost use Rattle.book.specs.meaning.View.{rowNumber};
+ghost use Rattle.rules.specs.meaning.Instances.{placeIn};
+ghost use Rattle.rules.specs.method.Scanning.{breachIn, watchOf, isIdle, reportIn, reportOf, instanceOf};
+ghost use Rattle.rules.specs.method.Laps.{firstInstance};
 use crate::breach;
 use crate::breach::Breach;
 use crate::finding::Finding;
@@ -80,8 +80,8 @@ pub fn first_instance(homes: &[u32], watch: Watch) -> usize
     if watch.trigger == 0 {
         return 0;
     }
-    let span = instances::span_of(homes, watch.trigger, watch.sign, 0);
-    span.next
+    let lap = instances::lap_of(homes, watch.trigger, watch.sign, 0);
+    lap.next
 }
 
 // 01: the line's first segment in the instance if present, otherwise the parent's trigger (1 for the root).

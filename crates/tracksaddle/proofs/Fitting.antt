@@ -4,7 +4,7 @@ use native.Mathlib.Omega.{arith}
 use mathlib.Core.Path.{_≡_, refl, sym, ap, _∙_, subst}
 use mathlib.Core.List.{List, [], _∷_, _++_, append-nil, append-assoc}
 use lib.ListN.{length, set, length-append}
-use Rattle.tracksaddle.specs.Door.{asManyAsFit}
+use Rattle.tracksaddle.specs.meaning.Door.{asManyAsFit}
 
 -- numbers put one after the other, the first at this place
 abbrev pub Puts : ℕ → List ℕ → List ℕ → List ℕ → Type 0

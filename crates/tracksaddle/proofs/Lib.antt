@@ -1,4 +1,2 @@
--- Laws of the C door.
+-- How numbers go into a lent table.
 pub mod Fitting
-pub mod Meaning
-pub mod OneOutcome

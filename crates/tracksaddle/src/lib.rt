@@ -1,26 +1,19 @@
 // The C door: what c/tracksaddle.h declares, and nothing else. Numbers and slices pass; the work is done below.
 ghost use mathlib.Core.Path.{_≡_};
 ghost use lib.ListN.{set};
-ghost use Rattle.tracksaddle.specs.Door.{asManyAsFit, partNumbers};
-ghost use Rattle.reading.specs.Machine.{componentSpan};
-ghost use Rattle.reading.specs.Service.{standard};
-ghost use Rattle.book.specs.GoodBook.{Judged};
-ghost use Rattle.judging.specs.Verdicts.{numbersOf};
-ghost use Rattle.judging.specs.Table.{judged, tablesAfter, tables, roomOf};
-use judging::Verdict;
+ghost use Rattle.tracksaddle.specs.meaning.Door.{asManyAsFit, partNumbers};
+ghost use Rattle.reading.specs.method.Machine.{componentSpan};
+ghost use Rattle.reading.specs.meaning.Service.{standard};
+ghost use Rattle.book.specs.meaning.GoodBook.{Judged};
+ghost use Rattle.framing.specs.meaning.Record.{numbersOf};
+ghost use Rattle.judging.specs.method.Table.{judged, tablesAfter};
+ghost use Rattle.judging.specs.meaning.Tables.{tables, roomOf};
+use framing::Verdict;
+use framing::table;
 use reading::lookup;
 use reading::service::Service;
 
-// One number into a lent table, if it fits there.
-fn put(table: &mut [u32], at: usize, number: u32)
-    ensures { λ _. ⌜ now (table .exit) ≡ set (now (table .entry)) at number ⌝ }
-{
-    if at < table.len() {
-        table[at] = number;
-    }
-}
-
-// The same for a table of sizes.
+// One size into a lent table, if it fits there.
 fn put_size(table: &mut [usize], at: usize, size: usize)
     ensures { λ _. ⌜ now (table .exit) ≡ set (now (table .entry)) at size ⌝ }
 {
@@ -30,15 +23,15 @@ fn put_size(table: &mut [usize], at: usize, size: usize)
 }
 
 // The six numbers in 01's order.
-fn put_verdict(table: &mut [u32], verdict: Verdict)
-    ensures { λ _. ⌜ now (table .exit) ≡ asManyAsFit (numbersOf verdict) (now (table .entry)) ⌝ }
+fn put_verdict(numbers: &mut [u32], verdict: Verdict)
+    ensures { λ _. ⌜ now (numbers .exit) ≡ asManyAsFit (numbersOf verdict) (now (numbers .entry)) ⌝ }
 {
-    put(table, 0, verdict.number);
-    put(table, 1, verdict.place.at);
-    put(table, 2, verdict.place.line);
-    put(table, 3, verdict.place.element);
-    put(table, 4, verdict.place.component);
-    put(table, 5, verdict.condition);
+    table::put(numbers, 0, verdict.number);
+    table::put(numbers, 1, verdict.place.at);
+    table::put(numbers, 2, verdict.place.line);
+    table::put(numbers, 3, verdict.place.element);
+    table::put(numbers, 4, verdict.place.component);
+    table::put(numbers, 5, verdict.condition);
 }
 
 // The verdict on the message under the book, with what is known of the conditions: its number is returned, its six numbers

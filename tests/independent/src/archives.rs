@@ -30,8 +30,7 @@ mod declared {
             record: *mut u32,
             record_len: usize,
         ) -> u32;
-        pub fn probe_segments(message: *const u8, message_len: usize) -> usize;
-        pub fn probe_bad_place(message: *const u8, message_len: usize) -> usize;
+        pub fn probe_message(message: *const u8, message_len: usize) -> u64;
         pub fn probe_next(message: *const u8, message_len: usize, at: usize) -> usize;
         pub fn probe_place(
             message: *const u8,
@@ -117,16 +116,14 @@ pub fn judge(
     }
 }
 
-/// The number of segments, 0 if the message is not well-formed.
-pub fn segments(message: &[u8]) -> usize {
-    // SAFETY: as above.
-    unsafe { declared::probe_segments(message.as_ptr(), message.len()) }
-}
+/// Each of the tables that [`judge_message`] supposes has so many entries.
+pub const SUPPOSED_ENTRIES: usize = 1_000_000;
 
-/// Number 4's place, or the length plus 1 if the message is well-formed.
-pub fn bad_place(message: &[u8]) -> usize {
+/// Of the message alone, the table's number 3 to 9 and its place, or 0 and the
+/// segment count.
+pub fn judge_message(message: &[u8]) -> (u32, u32) {
     // SAFETY: as above.
-    unsafe { declared::probe_bad_place(message.as_ptr(), message.len()) }
+    number_and_place(unsafe { declared::probe_message(message.as_ptr(), message.len()) })
 }
 
 /// The offset after the well-formed segment that starts at `at`, 0 if none does.
@@ -135,11 +132,11 @@ pub fn next(message: &[u8], at: usize) -> usize {
     unsafe { declared::probe_next(message.as_ptr(), message.len(), at) }
 }
 
-/// The table's number, 0, 10 or 11, and for 10 and 11 its place, for the first
+/// The table's number 10 or 11 and its place, or 0 and `segments`, for the first
 /// so many segments, as far as they are well-formed. No other number is asked.
 pub fn place(message: &[u8], segments: u32, book: &[u8]) -> (u32, u32) {
     // SAFETY: as above.
-    let answer = unsafe {
+    number_and_place(unsafe {
         declared::probe_place(
             message.as_ptr(),
             message.len(),
@@ -147,7 +144,11 @@ pub fn place(message: &[u8], segments: u32, book: &[u8]) -> (u32, u32) {
             book.as_ptr(),
             book.len(),
         )
-    };
+    })
+}
+
+/// The number in the upper half of an answer, the place in the lower.
+fn number_and_place(answer: u64) -> (u32, u32) {
     ((answer >> 32) as u32, answer as u32)
 }
 

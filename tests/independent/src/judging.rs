@@ -1,6 +1,7 @@
 //! The independent judge, from 01, "Placing and judging" and "Verdict numbers":
 //! [`judge`] answers the record and writes the tables.
 //!
+//! - [`message`]: the message alone, numbers 3 to 9
 //! - [`fields`]: the first field fault of a segment, number 12
 //! - [`rules`]: the first row that some filling breaks, numbers 14 and 15
 //! - [`plain`]: the same verdict a second time, as slow as its definition and
@@ -15,15 +16,15 @@
 pub mod damage;
 pub mod fields;
 pub mod fitting;
+pub mod message;
 pub mod plain;
 pub mod rules;
 
 use crate::book::{check, Book};
-use crate::bytes::Service;
-use crate::machine::scan;
 use crate::placing::homes::Homes;
 use crate::placing::segments::{Segment, Segments};
 use crate::placing::walk::{Outline, Walk};
+use message::{check_closing, check_end, check_length, check_limits, is_in_its_place};
 use rules::Outcome;
 
 /// Number 3.
@@ -103,9 +104,9 @@ fn stop_at_the_first_fault(
     check_length(message)?;
     let split = Split::of(message)?;
     let n = split.starts.len();
-    check_limits(n, &tables)?;
+    check_limits(n, shortest(&tables))?;
     check_envelope(&split)?;
-    check_closing(&split)?;
+    check_closing(n, split.segment(0), split.segment(n - 1))?;
     let homes = find_homes(&book, &split)?;
     let parents = find_parents(&book, &homes)?;
     for (table, entries) in tables.into_iter().zip([&split.starts, &homes, &parents]) {
@@ -124,19 +125,16 @@ struct Split<'a> {
 }
 
 impl<'a> Split<'a> {
-    /// Number 4: the segments before the first fault are good, so it is looked
-    /// for after them.
+    /// Number 4.
     fn of(message: &'a [u8]) -> Result<Split<'a>, Stop> {
         let mut starts = Vec::new();
         let mut end = 0;
         for segment in Segments::of(message) {
             starts.push(segment.start as u32);
-            end = segment.start + segment.bytes.len();
+            end = segment.end();
         }
-        match scan(Service::STANDARD, &message[end..]) {
-            Err(place) if end < message.len() => Err(Record::at(4, end + place)),
-            _ => Ok(Split { message, starts }),
-        }
+        check_end(message, end)?;
+        Ok(Split { message, starts })
     }
 
     /// By its index from 0.
@@ -162,42 +160,19 @@ fn check_conditions(book: &Book, conditions: &[u8]) -> Result<(), Stop> {
     stop_unless(are_good, Record::new(2))
 }
 
-/// Number 3.
-fn check_length(message: &[u8]) -> Result<(), Stop> {
-    let is_good = (1..=LONGEST_MESSAGE).contains(&message.len());
-    stop_unless(is_good, Record::new(3))
+fn shortest(tables: &[&mut [u32]; 3]) -> usize {
+    let lengths = tables.iter().map(|table| table.len());
+    lengths.min().expect("three tables")
 }
 
-/// Numbers 5 and 6.
-fn check_limits(n: usize, tables: &[&mut [u32]; 3]) -> Result<(), Stop> {
-    stop_unless(n <= MOST_SEGMENTS, Record::new(5))?;
-    let have_room = tables.iter().all(|table| table.len() >= n);
-    stop_unless(have_room, Record::at(6, n))
-}
-
-/// Number 7: UNH exactly first, UNT exactly last. One segment is both, so that
-/// its tag is never right.
+/// Number 7.
 fn check_envelope(split: &Split) -> Result<(), Stop> {
     let last = split.starts.len() - 1;
     for (index, segment) in split.segments().enumerate() {
-        let tag = segment.tag();
-        let is_good = (index == 0) == (tag == b"UNH") && (index == last) == (tag == b"UNT");
+        let is_good = is_in_its_place(segment, index == 0, index == last);
         stop_unless(is_good, Record::at(7, index + 1))?;
     }
     Ok(())
-}
-
-/// Numbers 8 and 9. Two components have the same value exactly if they have the
-/// same text, and an absent one has the empty value.
-fn check_closing(split: &Split) -> Result<(), Stop> {
-    let n = split.starts.len();
-    let first = split.segment(0);
-    let last = split.segment(n - 1);
-    let count = last.component(1, 1).unwrap_or_default();
-    stop_unless(count == n.to_string().as_bytes(), Record::at(8, n))?;
-    let opening = first.component(1, 1).unwrap_or_default();
-    let closing = last.component(2, 1).unwrap_or_default();
-    stop_unless(opening == closing, Record::at(9, n))
 }
 
 /// Number 10, or each segment's line.

@@ -10,10 +10,10 @@
 //!   book, and ways to break their order
 //! - [`judging`]: the independent judge, quick and once more by definitions,
 //!   random messages that fit a book, and ways to break them
-//! - [`machine`]: the state machine in ordinary Rust, the reading benchmark's
-//!   yardstick
+//! - [`machine`]: the state machine over bytes, for number 4's place
 //! - [`archives`]: safe calls into the proved archives
-//! - [`enumeration`], [`random`], [`writing`]: where the compared texts come from
+//! - [`enumeration`], [`envelope`], [`random`], [`writing`]: where the compared
+//!   texts come from
 //! - [`planned`]: books that benchmarks and comparisons are run over
 //! - [`arguments`], [`lent`], [`times`], [`difference`], [`described`]: what the
 //!   programs are called with, lend, measure, leave behind and print
@@ -24,7 +24,7 @@
 //! repository's root:
 //!
 //! ```text
-//! tests/independent/host_archives target/host tracksaddle reading_probe placing_probe
+//! tools/host_archives target/host tracksaddle reading_probe placing_probe
 //! cd tests/independent
 //! export TRACKSADDLE_ARCHIVES=$PWD/../../target/host
 //! cargo run --release --bin compare_reading [SEED]
@@ -44,6 +44,7 @@ pub mod bytes;
 pub mod described;
 pub mod difference;
 pub mod enumeration;
+pub mod envelope;
 pub mod judging;
 pub mod lent;
 pub mod machine;

@@ -1,5 +1,5 @@
-//! The yardstick of the benchmark: the state machine over bytes as one would
-//! write it in ordinary Rust, no more and no less.
+//! The state machine over bytes as one would write it in ordinary Rust: where a
+//! message goes wrong, and in which state.
 
 use crate::bytes::{is_data, is_tag_byte, Service};
 

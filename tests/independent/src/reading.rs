@@ -40,6 +40,13 @@ pub struct Part {
     pub length: usize,
 }
 
+impl Component {
+    /// Whether its text has a releasing `?`.
+    pub fn is_released(&self) -> bool {
+        self.value.len() < self.end - self.start
+    }
+}
+
 impl Segment {
     /// The component, if present. "Elements count from 1, components from 1
     /// within their element", so there is none at number 0.
@@ -56,15 +63,28 @@ impl Segment {
 
 /// All segments of a well-formed message, or number 4's place.
 pub fn read_message(text: &[u8]) -> Result<Vec<Segment>, usize> {
+    match read_segments(text) {
+        (segments, None) => Ok(segments),
+        (_, Some(place)) => Err(place),
+    }
+}
+
+/// The segments from offset 0 on, one after another, and number 4's place if
+/// they are not all of a well-formed message.
+pub fn read_segments(text: &[u8]) -> (Vec<Segment>, Option<usize>) {
     let mut at = 0;
     let mut segments = Vec::new();
     // "A message is one or more segments": the first is read even from no bytes.
     while at < text.len() || segments.is_empty() {
-        let segment = read_segment(text, at)?;
-        at = segment.end;
-        segments.push(segment);
+        match read_segment(text, at) {
+            Ok(segment) => {
+                at = segment.end;
+                segments.push(segment);
+            }
+            Err(place) => return (segments, Some(place)),
+        }
     }
-    Ok(segments)
+    (segments, None)
 }
 
 /// Where the segments of a message start.

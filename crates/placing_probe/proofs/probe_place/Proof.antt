@@ -1,7 +1,8 @@
 -- `probe_place` meets its contract: in each arm the outcome of the test pass is known.
-use mathlib.Core.Path.{ap, sym, _∙_}
+use Prim.Native.Nat.{_+_, _*_, _^_}
+use native.Mathlib.Omega.{arith}
+use mathlib.Core.Path.{_≡_, _∙_}
 use borrow.Author.Needs.{needs}
-use Rattle.placing_probe.specs.Probe.{packed}
 use Rattle.placing_probe.proofs.Standard.{placed}
 use Rattle.placing_probe.proofs.probe_place.Statement.{statement}
 use Rattle.placing_probe.proofs.probe_place.Tie as tie
@@ -40,13 +41,23 @@ add-result-2 : tie.Need-add-result-2
 add-result-2 c = search needs
 
 returns : tie.Need-returns
-returns c = sym (ap packed (c .enum-told .given .1)) ∙ placed (c .before .before .before .before .before .before .args .message .now) (c .before .before .before .before .before .before .args .book .now) (c .before .before .before .before .before .before .args .segments) _ (c .before .before .before .standard .ensures) _ (c .before .before .test-placing .ensures)
+returns c =
+    let called = c .before .before in
+    let args = called .before .before .before .before .args in
+    let same : args .segments ≡ 0 * 2 ^ 32 + args .segments = omega arith in
+    same ∙ placed (args .message .now) (args .book .now) (args .segments) _ (called .before .standard .ensures) _ _ (c .enum-told .given .1) (called .test-placing .ensures)
 
 returns-2 : tie.Need-returns-2
-returns-2 c = sym (ap packed (c .before .place .given .1)) ∙ placed (c .before .before .before .before .before .before .before .args .message .now) (c .before .before .before .before .before .before .before .args .book .now) (c .before .before .before .before .before .before .before .args .segments) _ (c .before .before .before .before .standard .ensures) _ (c .before .before .before .test-placing .ensures)
+returns-2 c =
+    let called = c .before .before .before in
+    let args = called .before .before .before .before .args in
+    placed (args .message .now) (args .book .now) (args .segments) _ (called .before .standard .ensures) _ _ (c .before .place .given .1) (called .test-placing .ensures)
 
 returns-3 : tie.Need-returns-3
-returns-3 c = sym (ap packed (c .before .place2 .given .1)) ∙ placed (c .before .before .before .before .before .before .before .args .message .now) (c .before .before .before .before .before .before .before .args .book .now) (c .before .before .before .before .before .before .before .args .segments) _ (c .before .before .before .before .standard .ensures) _ (c .before .before .before .test-placing .ensures)
+returns-3 c =
+    let called = c .before .before .before in
+    let args = called .before .before .before .before .args in
+    placed (args .message .now) (args .book .now) (args .segments) _ (called .before .standard .ensures) _ _ (c .before .place2 .given .1) (called .test-placing .ensures)
 
 pub probe-place-spec : {M : Type 1} → statement M
 probe-place-spec =

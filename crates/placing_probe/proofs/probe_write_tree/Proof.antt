@@ -20,7 +20,11 @@ same-length-3 : tie.Need-same-length-3
 same-length-3 c = search needs
 
 returns : tie.Need-returns
-returns c = tables (c .before .before .before .before .before .before .before .before .before .before .before .before .before .before .before .before .args .message .now) (c .before .before .before .before .before .before .before .before .before .before .before .before .before .before .before .before .args .book .now) (c .before .before .before .before .before .before .before .before .before .before .before .before .before .before .before .before .args .segments) _ (c .before .before .before .before .before .before .before .before .before .before .standard .ensures) _ _ _ _ _ _ (c .before .before .before .before .before .before .write-tree .ensures)
+returns c =
+    let write-tree = c .before .before .before .before .before .before .write-tree in
+    let standard = c .before .before .before .before .before .before .before .before .before .before .standard in
+    let args = c .before .before .before .before .before .before .before .before .before .before .before .before .before .before .before .before .args in
+    tables (args .message .now) (args .book .now) (args .segments) _ (standard .ensures) _ _ _ _ _ _ (write-tree .ensures)
 
 pub probe-write-tree-spec : {M : Type 1} → statement M
 probe-write-tree-spec =

@@ -1,7 +1,7 @@
 -- `probe_next` meets its contract: in each arm it is known what the cursor found.
 use mathlib.Core.Path.{_∙_, ap, sym}
 use borrow.Author.Needs.{needs}
-use Rattle.reading.specs.Machine.{nextSegment}
+use Rattle.reading.specs.method.Machine.{nextSegment}
 use Rattle.reading.specs.declared.service.Service.{Service}
 use Rattle.reading_probe.specs.Probe.{nextOf}
 use Rattle.reading_probe.proofs.probe_next.Statement.{statement}
@@ -20,10 +20,18 @@ enum-told : tie.Need-enum-told
 enum-told c = search needs
 
 returns : tie.Need-returns
-returns c = sym (ap nextOf (ap (λ (s : Service). nextSegment s ((c .before .before .before .before .before .before .args .message .now)) (c .before .before .before .before .before .before .args .at)) (sym (c .before .before .before .before .standard .ensures)) ∙ sym (c .before .before .before .next-segment .ensures) ∙ (c .before .next .given .1)))
+returns c =
+    let next-segment = c .before .before .before .next-segment in
+    let standard = c .before .before .before .before .standard in
+    let args = c .before .before .before .before .before .before .args in
+    sym (ap nextOf (ap (λ (s : Service). nextSegment s (args .message .now) (args .at)) (sym (standard .ensures)) ∙ sym (next-segment .ensures) ∙ (c .before .next .given .1)))
 
 returns-2 : tie.Need-returns-2
-returns-2 c = sym (ap nextOf (ap (λ (s : Service). nextSegment s ((c .before .before .before .before .before .args .message .now)) (c .before .before .before .before .before .args .at)) (sym (c .before .before .before .standard .ensures)) ∙ sym (c .before .before .next-segment .ensures) ∙ (c .enum-told .given .1)))
+returns-2 c =
+    let next-segment = c .before .before .next-segment in
+    let standard = c .before .before .before .standard in
+    let args = c .before .before .before .before .before .args in
+    sym (ap nextOf (ap (λ (s : Service). nextSegment s (args .message .now) (args .at)) (sym (standard .ensures)) ∙ sym (next-segment .ensures) ∙ (c .enum-told .given .1)))
 
 pub probe-next-spec : {M : Type 1} → statement M
 probe-next-spec =

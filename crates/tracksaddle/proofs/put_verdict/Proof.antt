@@ -1,7 +1,7 @@
 -- `put_verdict` meets its contract: six numbers put one after the other are as many of the six as fit.
 use mathlib.Core.Path.{refl}
 use borrow.Author.Needs.{needs}
-use Rattle.judging.specs.Verdicts.{numbersOf}
+use Rattle.framing.specs.meaning.Record.{numbersOf}
 use Rattle.tracksaddle.proofs.Fitting.{puts-fit}
 use Rattle.tracksaddle.proofs.put_verdict.Statement.{statement}
 use Rattle.tracksaddle.proofs.put_verdict.Tie as tie
@@ -30,7 +30,7 @@ same-length c = search needs
 returns : tie.Need-returns
 returns c =
     let args = c .before .before .before .before .before .before .before .before .before .before .before .before .before .before .before .before .before .before .before .before .before .before .before .before .before .args in
-    puts-fit (numbersOf (args .verdict)) (args .table .now) _ (_, c .before .before .before .before .before .before .before .before .before .before .before .before .before .before .before .before .before .before .before .before .before .before .put .ensures, (_, c .before .before .before .before .before .before .before .before .before .before .before .before .before .before .before .before .before .before .put2 .ensures, (_, c .before .before .before .before .before .before .before .before .before .before .before .before .before .before .put3 .ensures, (_, c .before .before .before .before .before .before .before .before .before .before .put4 .ensures, (_, c .before .before .before .before .before .before .put5 .ensures, (_, c .before .before .put6 .ensures, refl))))))
+    puts-fit (numbersOf (args .verdict)) (args .numbers .now) _ (_, c .before .before .before .before .before .before .before .before .before .before .before .before .before .before .before .before .before .before .before .before .before .before .put .ensures, (_, c .before .before .before .before .before .before .before .before .before .before .before .before .before .before .before .before .before .before .put2 .ensures, (_, c .before .before .before .before .before .before .before .before .before .before .before .before .before .before .put3 .ensures, (_, c .before .before .before .before .before .before .before .before .before .before .put4 .ensures, (_, c .before .before .before .before .before .before .put5 .ensures, (_, c .before .before .put6 .ensures, refl))))))
 
 pub put-verdict-spec : {M : Type 1} → statement M
 put-verdict-spec =

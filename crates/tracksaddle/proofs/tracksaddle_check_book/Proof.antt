@@ -1,6 +1,6 @@
 -- `tracksaddle_check_book` meets its contract: it answers what the crate `book` answers, and the promise is the same.
 use borrow.Author.Needs.{needs}
-use Rattle.book.specs.GoodBook.{Judged}
+use Rattle.book.specs.meaning.GoodBook.{Judged}
 use Rattle.tracksaddle.proofs.tracksaddle_check_book.Statement.{statement}
 use Rattle.tracksaddle.proofs.tracksaddle_check_book.Tie as tie
 

@@ -4,9 +4,9 @@ use native.Mathlib.Omega.{arith}
 use mathlib.Core.Path.{_≡_, refl}
 use lib.ListN.{set}
 use borrow.Author.Needs.{needs}
-use Rattle.reading.specs.Service.{standard}
+use Rattle.reading.specs.meaning.Service.{standard}
 use Rattle.reading.proofs.Seeking.{span-inside}
-use Rattle.tracksaddle.specs.Door.{partNumbers}
+use Rattle.tracksaddle.specs.meaning.Door.{partNumbers}
 use Rattle.tracksaddle.proofs.Fitting.{puts-fit}
 use Rattle.tracksaddle.proofs.tracksaddle_find_component.Statement.{statement}
 use Rattle.tracksaddle.proofs.tracksaddle_find_component.Tie as tie

@@ -1,9 +1,9 @@
 -- `tracksaddle_judge` meets its contract: it hands on what `judge` promises, and writes that verdict's numbers.
 use mathlib.Core.Path.{ap, _∙_}
 use borrow.Author.Needs.{needs}
-use Rattle.judging.specs.Verdicts.{numbersOf}
-use Rattle.judging.specs.declared.verdict.Verdict.{Verdict}
-use Rattle.tracksaddle.specs.Door.{asManyAsFit}
+use Rattle.framing.specs.meaning.Record.{numbersOf}
+use Rattle.framing.specs.declared.verdict.Verdict.{Verdict}
+use Rattle.tracksaddle.specs.meaning.Door.{asManyAsFit}
 use Rattle.tracksaddle.proofs.tracksaddle_judge.Statement.{statement}
 use Rattle.tracksaddle.proofs.tracksaddle_judge.Tie as tie
 

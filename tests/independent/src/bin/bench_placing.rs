@@ -102,7 +102,7 @@ fn measure_test(input: &Input, segments: usize) {
         let placed = ordinary.run(|| input.placer().place(&input.message));
         let answered =
             library.run(|| archives::place(&input.message, segments as u32, &input.book));
-        assert_eq!((placed.number(), 0), answered);
+        assert_eq!((placed.number(), placed.place() as u32), answered);
     }
     print_measured("test", segments, &mut ordinary, &mut library);
 }

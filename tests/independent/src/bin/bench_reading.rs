@@ -1,14 +1,13 @@
-//! Measures the proved reading against the same state machine in ordinary
-//! Rust. A benchmark and no test: it prints figures and refuses none.
+//! Measures the proved judging of a message alone, numbers 3 to 9, against the
+//! same work in ordinary Rust: scan, frame, count and reference. A benchmark and
+//! no test: it prints figures and refuses none, but for answers that differ.
 
-use independent::archives;
-use independent::bytes::Service;
-use independent::machine;
+use independent::archives::{self, SUPPOSED_ENTRIES};
+use independent::judging::message::judge_message;
+use independent::judging::{LONGEST_MESSAGE, MOST_SEGMENTS};
 use std::hint::black_box;
 use std::time::{Duration, Instant};
 
-/// The longest message that 01 allows.
-const MESSAGE_BYTES: usize = 16_777_216;
 const RUNS: usize = 10;
 
 const REALISTIC_SEGMENTS: [&str; 8] = [
@@ -21,71 +20,87 @@ const REALISTIC_SEGMENTS: [&str; 8] = [
     "QTY+220:-17:KWH'",
     "RFF+Z13:19102'",
 ];
+const SHORT_SEGMENT: &str = "UNS'";
 
 fn main() {
     println!(
-        "bench_reading: messages of {MESSAGE_BYTES} bytes, best of {RUNS} runs each, \
-         taken in turn; each message was written just before, and no output buffer is used"
+        "bench_reading: best of {RUNS} runs each, taken in turn; each message was written just \
+         before, and neither keeps anything of it"
     );
-    measure("realistic segments", &repeated(&REALISTIC_SEGMENTS));
-    measure("one giant component", &closed("", MESSAGE_BYTES));
-    measure("short segments", &repeated(&["UNS'"]));
+    let realistic = REALISTIC_SEGMENTS.into_iter().cycle();
+    measure("realistic segments", &longest(realistic), 0);
+    measure("one giant component", &longest([].into_iter()), 0);
+    let short = SHORT_SEGMENT.repeat(MOST_SEGMENTS - 2);
+    let short = enveloped(&short, MOST_SEGMENTS - 2);
+    measure("as many short segments as allowed", &short, 0);
+    let too_many = SHORT_SEGMENT.repeat(LONGEST_MESSAGE / SHORT_SEGMENT.len());
+    measure("too many short segments", too_many.as_bytes(), 5);
 }
 
-/// The segments over and over, and a last one that fills the message.
-fn repeated(segments: &[&str]) -> Vec<u8> {
-    let mut text = String::with_capacity(MESSAGE_BYTES);
-    for segment in segments.iter().cycle() {
-        if text.len() + segment.len() + SHORTEST_CLOSING > MESSAGE_BYTES {
+/// The message of 16 MiB that begins with these segments, as many as it has room
+/// for, and with one of free text fills what is left.
+fn longest(segments: impl Iterator<Item = &'static str>) -> Vec<u8> {
+    // The closing segment's count has at most six digits.
+    let around = "UNH+1'FTX+'UNT+999999+1'".len();
+    let mut middle = String::with_capacity(LONGEST_MESSAGE);
+    let mut count = 0;
+    for segment in segments {
+        if middle.len() + segment.len() + around > LONGEST_MESSAGE {
             break;
         }
-        text.push_str(segment);
+        middle.push_str(segment);
+        count += 1;
     }
-    closed(&text, MESSAGE_BYTES)
-}
-
-const SHORTEST_CLOSING: usize = "FTX+'".len();
-
-/// The text and one free-text segment that brings it to the length wanted.
-fn closed(text: &str, length: usize) -> Vec<u8> {
-    let filling = length - text.len() - SHORTEST_CLOSING;
-    let words = b"Zaehlerstand nicht plausibel, bitte pruefen. ";
-    let mut message = text.as_bytes().to_vec();
-    message.extend(b"FTX+");
-    message.extend(words.iter().cycle().take(filling));
-    message.push(b'\'');
+    let left = LONGEST_MESSAGE - enveloped(&format!("{middle}FTX+'"), count + 1).len();
+    let words = "Zaehlerstand nicht plausibel, bitte pruefen. ";
+    let filling: String = words.chars().cycle().take(left).collect();
+    let message = enveloped(&format!("{middle}FTX+{filling}'"), count + 1);
+    assert_eq!(message.len(), LONGEST_MESSAGE);
     message
 }
 
-fn measure(name: &str, message: &[u8]) {
+/// Between UNH and UNT, with the right count and reference.
+fn enveloped(middle: &str, segments: usize) -> Vec<u8> {
+    format!("UNH+1'{middle}UNT+{}+1'", segments + 2).into_bytes()
+}
+
+fn measure(name: &str, message: &[u8], number: u32) {
     let mut ordinary = Best::new();
     let mut library = Best::new();
     for _ in 0..RUNS {
-        ordinary.run(|| machine::scan(Service::STANDARD, message).unwrap_or(0));
-        library.run(|| archives::segments(message));
+        ordinary.run(|| {
+            let record = judge_message(message, SUPPOSED_ENTRIES);
+            (record.number, record.place)
+        });
+        library.run(|| archives::judge_message(message));
     }
-    assert_ne!(ordinary.segments, 0, "the message should be well-formed");
-    assert_eq!(ordinary.segments, library.segments, "the counts differ");
-    print_measured(name, message.len(), &ordinary, &library);
+    let (found, place) = ordinary.answer;
+    assert_eq!(found, number, "the message was made for another number");
+    assert_eq!(ordinary.answer, library.answer, "the answers differ");
+    println!(
+        "{name}: {} bytes, number {number}, place {place}",
+        message.len()
+    );
+    print_measured(message.len(), &ordinary, &library);
 }
 
-/// The best time so far, and the number of segments counted.
+/// The best time so far, and the number and place answered.
 struct Best {
     time: Duration,
-    segments: usize,
+    answer: (u32, u32),
 }
 
 impl Best {
     fn new() -> Best {
         Best {
             time: Duration::MAX,
-            segments: 0,
+            answer: (0, 0),
         }
     }
 
-    fn run(&mut self, count_segments: impl Fn() -> usize) {
+    fn run(&mut self, judge: impl Fn() -> (u32, u32)) {
         let begin = Instant::now();
-        self.segments = black_box(count_segments());
+        self.answer = black_box(judge());
         self.time = self.time.min(begin.elapsed());
     }
 
@@ -98,8 +113,7 @@ impl Best {
     }
 }
 
-fn print_measured(name: &str, bytes: usize, ordinary: &Best, library: &Best) {
-    println!("{name}: {} segments", library.segments);
+fn print_measured(bytes: usize, ordinary: &Best, library: &Best) {
     for (who, best) in [("ordinary Rust", ordinary), ("library", library)] {
         println!(
             "  {who:<14} {:8.2} ms  {:7.0} MB/s",

@@ -10,7 +10,7 @@
 use super::{Record, LONGEST_MESSAGE, MOST_SEGMENTS, UNKNOWN};
 use crate::book::{check, Book, Condition, Expression, Field, Form, Joint, Presence, Row};
 use crate::placing::walk::{Outline, Walk};
-use crate::reading::{read_message, Segment};
+use crate::reading::{read_message, read_segments, Segment};
 use std::collections::BTreeSet;
 
 /// More unknown conditions have too many fillings.
@@ -88,19 +88,35 @@ pub fn judge_filled(
     if conditions.len() != book.conditions || conditions.iter().any(|&byte| byte > 2) {
         return Record::new(2);
     }
-    if message.is_empty() || message.len() > LONGEST_MESSAGE {
-        return Record::new(3);
-    }
-    match read_message(message) {
-        Err(place) => Record::at(4, place),
-        Ok(segments) if segments.len() > MOST_SEGMENTS => Record::new(5),
-        Ok(segments) if segments.len() > shortest_table => Record::at(6, segments.len()),
-        Ok(segments) => judge_segments(&book, conditions, &segments),
+    let (segments, fault) = read_segments(message);
+    let alone = judge_message(message, &segments, fault, shortest_table);
+    match alone.number {
+        0 => judge_segments(&book, conditions, &segments),
+        _ => alone,
     }
 }
 
-fn judge_segments(book: &Book, conditions: &[u8], segments: &[Segment]) -> Record {
+/// The message alone: numbers 3 to 9, or 0 with the segment count. What reading
+/// it says is given.
+pub fn judge_message(
+    message: &[u8],
+    segments: &[Segment],
+    fault: Option<usize>,
+    shortest_table: usize,
+) -> Record {
+    if message.is_empty() || message.len() > LONGEST_MESSAGE {
+        return Record::new(3);
+    }
+    if let Some(place) = fault {
+        return Record::at(4, place);
+    }
     let n = segments.len();
+    if n > MOST_SEGMENTS {
+        return Record::new(5);
+    }
+    if n > shortest_table {
+        return Record::at(6, n);
+    }
     let tag = |number: usize| &segments[number - 1].tag;
     let is_misplaced = |&k: &usize| {
         k == 1 && tag(k) != b"UNH"
@@ -118,6 +134,10 @@ fn judge_segments(book: &Book, conditions: &[u8], segments: &[Segment]) -> Recor
     if value(closing, (2, 1)) != value(opening, (1, 1)) {
         return Record::at(9, n);
     }
+    Record::at(0, n)
+}
+
+fn judge_segments(book: &Book, conditions: &[u8], segments: &[Segment]) -> Record {
     let homes: Vec<Option<usize>> = segments.iter().map(|one| home(book, one)).collect();
     if let Some(index) = homes.iter().position(Option::is_none) {
         return Record::at(10, index + 1);
@@ -156,7 +176,7 @@ fn judge_segments(book: &Book, conditions: &[u8], segments: &[Segment]) -> Recor
             line: line as u32,
             ..Record::at(14, place)
         },
-        None => Record::at(0, n),
+        None => Record::at(0, segments.len()),
     }
 }
 

@@ -1,14 +1,18 @@
 //! The judge against 01's own messages, at its limits, and against the plain
-//! judge by all fillings.
+//! judge by all fillings; the message alone against both.
 
 use super::damage::{damage, damage_bytes};
 use super::fitting::{fitting_message, livable_book, write_message, Purpose};
+use super::message::judge_message;
 use super::plain::judge_by_fillings;
 use super::*;
 use crate::book::edit::{insert_line, optional_line, smallest_book};
 use crate::book::encode::encode;
 use crate::book::{Condition, Expression, Field, Form, Joint, Presence, Row};
+use crate::enumeration::{for_each_text, ALPHABET};
+use crate::envelope::{for_each_byte, for_each_closing, for_each_envelope};
 use crate::random::Random;
+use crate::reading::read_segments;
 
 const BOOK_K: &[u8] = include_bytes!("../../../../books/k.bin");
 const SECOND_BOOK: &[u8] = include_bytes!("../../../../books/second.bin");
@@ -279,6 +283,80 @@ fn the_identifier_is_element_1_component_2() {
     assert_eq!(judged_by_k(without_qualifier, TRUE), Record::at(0, 4));
     let missing = "UNH+1'BGM+7'RFF+Z13'UNT+4+1'";
     assert_eq!(judged_by_k(missing, TRUE), field_fault(3, 3, 1, 2));
+}
+
+// The message alone.
+
+/// The quick judge of the message alone, the plain one and the judge of the
+/// whole must agree. Answers what they say.
+fn alone(message: &[u8], shortest_table: usize) -> Record {
+    let record = judge_message(message, shortest_table);
+    let (segments, fault) = read_segments(message);
+    let plain = plain::judge_message(message, &segments, fault, shortest_table);
+    assert_eq!(record, plain, "{}", message.escape_ascii());
+    let mut tables = [(); 3].map(|()| vec![CANARY; shortest_table]);
+    let [starts, homes, parents] = &mut tables;
+    let whole = judge(message, BOOK_K, &[0], starts, homes, parents);
+    match record.number {
+        0 => assert!(whole.number == 0 || whole.number > 9),
+        _ => assert_eq!(record, whole, "{}", message.escape_ascii()),
+    }
+    record
+}
+
+#[test]
+fn the_message_alone_has_numbers_3_to_9() {
+    for (message, record) in [
+        ("", Record::new(3)),
+        ("UNH+1", Record::at(4, 5)),
+        ("UNH+1?A'", Record::at(4, 6)),
+        ("UNH+1'UNT+2+1'\n", Record::at(4, 14)),
+        ("UNH+1'BGM'BGM'BGM'UNT+5+1'", Record::at(6, 5)),
+        ("UNH+1'", Record::at(7, 1)),
+        ("UNH+1'UNT+2+1'UNT+3+1'", Record::at(7, 2)),
+        ("UNH+?'UNT+2+1'", Record::at(7, 1)),
+        ("UNH+1'UNT+02+1'", Record::at(8, 2)),
+        ("UNH+1'UNT+3+2'", Record::at(8, 2)),
+        ("UNH+1'UNT+2'", Record::at(9, 2)),
+        ("UNH+??'UNT+2+??'", Record::at(0, 2)),
+        ("UNH'UNT+2'", Record::at(0, 2)),
+        ("UNH+1:2'FTX+?''UNT+3:0+1+3'", Record::at(0, 3)),
+    ] {
+        assert_eq!(alone(message.as_bytes(), 4), record, "{message}");
+    }
+}
+
+#[test]
+fn the_message_alone_has_its_limits() {
+    let message = |n: usize, count: usize| format!("UNH+1'{}UNT+{count}+1'", "UNS'".repeat(n - 2));
+    let judged = |message: &str| alone(message.as_bytes(), MOST_SEGMENTS);
+    assert_eq!(judged(&message(65_544, 8)), Record::at(8, 65_544));
+    assert_eq!(judged(&message(70_000, 70_000)), Record::at(0, 70_000));
+    let most = message(MOST_SEGMENTS, MOST_SEGMENTS);
+    assert_eq!(judged(&most), Record::at(0, MOST_SEGMENTS));
+    let over = message(MOST_SEGMENTS + 1, MOST_SEGMENTS + 1);
+    assert_eq!(judged(&over), Record::new(5));
+    let around = "UNH+1'FTX+'UNT+3+1'".len();
+    let filled = |length: usize| format!("UNH+1'FTX+{}'UNT+3+1'", "7".repeat(length - around));
+    assert_eq!(judged(&filled(LONGEST_MESSAGE)), Record::at(0, 3));
+    assert_eq!(judged(&filled(LONGEST_MESSAGE + 1)), Record::new(3));
+}
+
+#[test]
+fn the_judges_of_the_message_alone_agree() {
+    let mut met = [0; 10];
+    let mut compare = |text: &[u8], table: usize| met[alone(text, table).number as usize] += 1;
+    for beginning in ["", "UNH", "UNH+1'UNT+2+1"] {
+        let beginning = beginning.as_bytes();
+        for_each_text(&ALPHABET, beginning, 5, &mut |text| compare(text, 12));
+    }
+    for_each_envelope(2, &mut |text| compare(text, 12));
+    for_each_envelope(2, &mut |text| compare(text, 3));
+    for_each_closing(&mut |text| compare(text, 12));
+    for_each_byte(&mut |text| compare(text, 12));
+    for number in [0, 4, 6, 7, 8, 9] {
+        assert!(met[number] >= 1_000, "number {number}: {met:?}");
+    }
 }
 
 // Fields.

@@ -74,6 +74,11 @@ impl<'a> Segment<'a> {
         &self.bytes[..TAG_BYTES]
     }
 
+    /// The offset after its `'` in the message.
+    pub fn end(self) -> usize {
+        self.start + self.bytes.len()
+    }
+
     /// The component if it is present, release bytes included.
     pub fn component(self, element: usize, component: usize) -> Option<&'a [u8]> {
         let mut place = (0, 0);

@@ -1,5 +1,4 @@
 -- `check::check_book` meets its contract: what the three tests found decides whether the book is good.
-use native.Mathlib.Omega.{arith}
 use mathlib.Core.Path.{sym, _∙_}
 use borrow.Author.Needs.{needs}
 use borrow.Author.Tests.{not-true, not-false}
@@ -14,7 +13,7 @@ returns : tie.Need-returns
 returns c = header-bad _ (sym (c .before .header-is-good .ensures) ∙ not-true _ (c .if1 .taken))
 
 records-are-good-requires : tie.Need-records-are-good-requires
-records-are-good-requires c κs = header-small _ (omega (arith, (c .before .before .shared-slice-known .given) 2)) (omega (arith, (c .before .before .shared-slice-known .given) 3)) (sym (c .before .header-is-good .ensures) ∙ not-false _ (c .if1 .left))
+records-are-good-requires c κs = header-small _ (sym (c .before .header-is-good .ensures) ∙ not-false _ (c .if1 .left))
 
 returns-2 : tie.Need-returns-2
 returns-2 c = records-bad _ (sym (c .before .records-are-good .ensures) ∙ not-true _ (c .if2 .taken))
@@ -22,7 +21,7 @@ returns-2 c = records-bad _ (sym (c .before .records-are-good .ensures) ∙ not-
 frame-is-good-requires : tie.Need-frame-is-good-requires
 frame-is-good-requires c κs =
     records-within _
-    (header-small _ (omega (arith, (c .before .before .before .before .shared-slice-known .given) 2)) (omega (arith, (c .before .before .before .before .shared-slice-known .given) 3)) (sym (c .before .before .before .header-is-good .ensures) ∙ not-false _ (c .before .before .if1 .left)))
+    (header-small _ (sym (c .before .before .before .header-is-good .ensures) ∙ not-false _ (c .before .before .if1 .left)))
     (sym (c .before .records-are-good .ensures) ∙ not-false _ (c .if2 .left))
 
 returns-3 : tie.Need-returns-3

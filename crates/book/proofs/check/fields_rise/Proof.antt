@@ -1,6 +1,10 @@
--- `check::fields_rise` meets its contract: the tests are joined as the rule joins its parts.
+-- `check::fields_rise` meets its contract: the range that is asked is that of the line's fields.
+use Prim.Native.Nat.{_-_, ℕ}
+use mathlib.Core.Path.{_∙_, ap, ap₂}
 use borrow.Author.Needs.{needs}
-use Rattle.book.specs.GoodBook.{risingFieldsRule}
+use Rattle.book.specs.meaning.GoodBook.{fieldRises, risingFieldsRule}
+use Rattle.book.specs.meaning.Guide.{guideOf}
+use Rattle.book.specs.meaning.Rule.{every, run}
 use Rattle.book.proofs.check.fields_rise.Statement.{statement}
 use Rattle.book.proofs.check.fields_rise.Tie as tie
 
@@ -18,9 +22,7 @@ every-requires c κs = search needs
 
 returns : tie.Need-returns
 unfolding risingFieldsRule
-returns c = cc
+returns c = c .every .ensures ∙ ap₂ (λ (f n : ℕ). run (every f n (fieldRises (guideOf (c .before .before .before .before .before .args .book .now))))) (c .before .before .before .first-field .ensures .0) (c .before .less .ensures .0 ∙ ap (λ (n : ℕ). n - 1) (c .before .before .field-count .ensures .0))
 
 pub fields-rise-spec : {M : Type 1} → statement M
-fields-rise-spec =
-    tie.close
-    (tie.spec first-field-requires field-count-requires less-requires every-requires returns)
+fields-rise-spec = tie.close (tie.spec first-field-requires field-count-requires less-requires every-requires returns)

@@ -1,8 +1,9 @@
--- `check::frame_is_good` meets its contract: it joins the tests of its parts as the rule joins its parts.
-use mathlib.Core.Bool.{_&&_}
-use mathlib.Core.Path.{ap₂}
+-- `check::frame_is_good` meets its contract: it joins the tests as the rule joins its parts.
 use borrow.Author.Needs.{needs}
-use Rattle.book.specs.Each.{framedRule}
+use Rattle.book.specs.meaning.GoodBook.{structureRule}
+use Rattle.book.specs.meaning.Guide.{guideOf}
+use Rattle.book.specs.method.Each.{framedRule}
+use Rattle.book.proofs.Joining.{asked, both}
 use Rattle.book.proofs.check.frame_is_good.Statement.{statement}
 use Rattle.book.proofs.check.frame_is_good.Tie as tie
 
@@ -12,22 +13,18 @@ has-frames-requires c κs = search needs
 has-carrier-requires : tie.Need-has-carrier-requires
 has-carrier-requires c κs = search needs
 
-all-structures-are-good-requires : tie.Need-all-structures-are-good-requires
-all-structures-are-good-requires c κs = search needs
+lines-requires : tie.Need-lines-requires
+lines-requires c κs = search needs
+
+structures-are-good-requires : tie.Need-structures-are-good-requires
+structures-are-good-requires c κs = search needs
 
 homes-are-good-requires : tie.Need-homes-are-good-requires
 homes-are-good-requires c κs = search needs
 
 returns : tie.Need-returns
 unfolding framedRule
-returns c = ap₂ _&&_ (c .before .before .before .has-frames .ensures) (ap₂ _&&_ (c .before .before .has-carrier .ensures) (ap₂ _&&_ (c .before .all-structures-are-good .ensures) (c .homes-are-good .ensures)))
+returns c = both (c .before .before .before .before .has-frames .ensures) (both (c .before .before .before .has-carrier .ensures) (both (asked (structureRule (guideOf (c .before .before .before .before .before .before .args .book .now))) 1 (c .before .structures-are-good .ensures) (c .before .before .lines .ensures .0)) (c .homes-are-good .ensures)))
 
 pub frame-is-good-spec : {M : Type 1} → statement M
-frame-is-good-spec =
-    tie.close
-    (tie.spec
-    has-frames-requires
-    has-carrier-requires
-    all-structures-are-good-requires
-    homes-are-good-requires
-    returns)
+frame-is-good-spec = tie.close (tie.spec has-frames-requires has-carrier-requires lines-requires structures-are-good-requires homes-are-good-requires returns)

@@ -1,6 +1,13 @@
--- `check::is_around` meets its contract: the tests are joined as the rule joins its parts.
+-- `check::is_around` meets its contract: it joins the tests as the rule joins its parts.
+use Prim.Native.Nat.{_+_, ℕ}
+use mathlib.Core.Path.{_∙_, ap}
+use lib.Dec.{leb}
 use borrow.Author.Needs.{needs}
-use Rattle.book.specs.GoodBook.{aroundRule}
+use Rattle.book.specs.meaning.GoodBook.{aroundRule, deeperRule}
+use Rattle.book.specs.meaning.Guide.{guideOf}
+use Rattle.book.specs.meaning.Rule.{every, run}
+use Rattle.book.specs.meaning.Words.{groupKind}
+use Rattle.book.proofs.Joining.{as-is, both, is}
 use Rattle.book.proofs.check.is_around.Statement.{statement}
 use Rattle.book.proofs.check.is_around.Tie as tie
 
@@ -18,7 +25,7 @@ every-requires c κs = search needs
 
 returns : tie.Need-returns
 unfolding aroundRule
-returns c = cc
+returns c = both (is groupKind (c .before .kind .ensures .0)) (both (as-is (leb (c .before .before .before .before .args .line + 1) (c .before .before .before .before .args .other))) (c .every .ensures ∙ ap (λ (n : ℕ). run (every (c .before .before .before .before .args .line + 1) n (deeperRule (guideOf (c .before .before .before .before .args .book .now)) (c .before .before .before .before .args .line)))) (c .before .before .less .ensures .0)))
 
 pub is-around-spec : {M : Type 1} → statement M
 is-around-spec = tie.close (tie.spec add-next less-requires kind-requires every-requires returns)

@@ -1,58 +1,72 @@
--- `check::records_are_good` meets its contract: the first part that fails decides, and one that holds leaves the others.
-use mathlib.Core.Path.{sym, _∙_}
+-- `check::records_are_good` meets its contract: the first rule that fails decides, and one that holds leaves the others.
+use Prim.Native.Nat.{_*_, _<_, _^_}
+use native.Mathlib.Omega.{arith}
+use mathlib.Core.Path.{_∙_, ap₂, sym}
 use borrow.Author.Needs.{needs}
-use borrow.Author.Tests.{not-true, not-false}
-use Rattle.book.specs.Each.{recordsRule}
+use borrow.Author.Tests.{not-false, not-true}
+use Rattle.book.specs.meaning.GoodBook.{codeRule, fieldRule, identifierRule, lineRule, rowRule}
+use Rattle.book.specs.meaning.Guide.{guideOf}
+use Rattle.book.specs.method.Each.{recordsRule}
+use Rattle.book.proofs.Joining.{asked}
 use Rattle.book.proofs.Rules.{fails-here, goes-on}
 use Rattle.book.proofs.check.records_are_good.Statement.{statement}
 use Rattle.book.proofs.check.records_are_good.Tie as tie
 
-lines-are-good-requires : tie.Need-lines-are-good-requires
-lines-are-good-requires c κs = search needs
+lines-requires : tie.Need-lines-requires
+lines-requires c κs = search needs
+
+every-requires : tie.Need-every-requires
+every-requires c κs = (omega (arith, c .lines .ensures .1), c .before .before .pre .some-lines)
 
 returns : tie.Need-returns
 unfolding recordsRule
-returns c = fails-here _ _ (sym (c .before .lines-are-good .ensures) ∙ not-true _ (c .if1 .taken))
+returns c = let g = guideOf (c .before .before .before .before .args .book .now) in fails-here _ _ (sym (asked (lineRule g) 1 (c .before .every .ensures) (c .before .before .lines .ensures .0)) ∙ not-true _ (c .if1 .taken))
 
-codes-are-good-requires : tie.Need-codes-are-good-requires
-codes-are-good-requires c κs = search needs
+codes-requires : tie.Need-codes-requires
+codes-requires c κs = search needs
+
+every-requires-2 : tie.Need-every-requires-2
+every-requires-2 c κs = (omega (arith, c .codes .ensures .1), c .before .before .before .before .before .pre .some-lines)
 
 returns-2 : tie.Need-returns-2
 unfolding recordsRule
-returns-2 c = goes-on _ _ _ (sym (c .before .before .before .lines-are-good .ensures) ∙ not-false _ (c .before .before .if1 .left)) (fails-here _ _ (sym (c .before .codes-are-good .ensures) ∙ not-true _ (c .if2 .taken)))
+returns-2 c = let g = guideOf (c .before .before .before .before .before .before .before .args .book .now) in goes-on _ _ _ (sym (asked (lineRule g) 1 (c .before .before .before .before .every .ensures) (c .before .before .before .before .before .lines .ensures .0)) ∙ not-false _ (c .before .before .before .if1 .left)) (fails-here _ _ (sym (asked (codeRule g) 0 (c .before .every2 .ensures) (c .before .before .codes .ensures .0)) ∙ not-true _ (c .if2 .taken)))
 
-fields-are-good-requires : tie.Need-fields-are-good-requires
-fields-are-good-requires c κs = search needs
+fields-requires : tie.Need-fields-requires
+fields-requires c κs = search needs
+
+every-requires-3 : tie.Need-every-requires-3
+every-requires-3 c κs = (omega (arith, c .fields .ensures .1), c .before .before .before .before .before .before .before .before .pre .some-lines)
 
 returns-3 : tie.Need-returns-3
 unfolding recordsRule
-returns-3 c = goes-on _ _ _ (sym (c .before .before .before .before .before .lines-are-good .ensures) ∙ not-false _ (c .before .before .before .before .if1 .left)) (goes-on _ _ _ (sym (c .before .before .before .codes-are-good .ensures) ∙ not-false _ (c .before .before .if2 .left)) (fails-here _ _ (sym (c .before .fields-are-good .ensures) ∙ not-true _ (c .if3 .taken))))
+returns-3 c = let g = guideOf (c .before .before .before .before .before .before .before .before .before .before .args .book .now) in goes-on _ _ _ (sym (asked (lineRule g) 1 (c .before .before .before .before .before .before .before .every .ensures) (c .before .before .before .before .before .before .before .before .lines .ensures .0)) ∙ not-false _ (c .before .before .before .before .before .before .if1 .left)) (goes-on _ _ _ (sym (asked (codeRule g) 0 (c .before .before .before .before .every2 .ensures) (c .before .before .before .before .before .codes .ensures .0)) ∙ not-false _ (c .before .before .before .if2 .left)) (fails-here _ _ (sym (asked (fieldRule g) 0 (c .before .every3 .ensures) (c .before .before .fields .ensures .0)) ∙ not-true _ (c .if3 .taken))))
 
-identifiers-are-good-requires : tie.Need-identifiers-are-good-requires
-identifiers-are-good-requires c κs = search needs
+identifiers-requires : tie.Need-identifiers-requires
+identifiers-requires c κs = search needs
+
+every-requires-4 : tie.Need-every-requires-4
+every-requires-4 c κs = (omega (arith, c .identifiers .ensures .1), c .before .before .before .before .before .before .before .before .before .before .before .pre .some-lines)
 
 returns-4 : tie.Need-returns-4
 unfolding recordsRule
-returns-4 c = goes-on _ _ _ (sym (c .before .before .before .before .before .before .before .lines-are-good .ensures) ∙ not-false _ (c .before .before .before .before .before .before .if1 .left)) (goes-on _ _ _ (sym (c .before .before .before .before .before .codes-are-good .ensures) ∙ not-false _ (c .before .before .before .before .if2 .left)) (goes-on _ _ _ (sym (c .before .before .before .fields-are-good .ensures) ∙ not-false _ (c .before .before .if3 .left)) (fails-here _ _ (sym (c .before .identifiers-are-good .ensures) ∙ not-true _ (c .if4 .taken)))))
+returns-4 c = let g = guideOf (c .before .before .before .before .before .before .before .before .before .before .before .before .before .args .book .now) in goes-on _ _ _ (sym (asked (lineRule g) 1 (c .before .before .before .before .before .before .before .before .before .before .every .ensures) (c .before .before .before .before .before .before .before .before .before .before .before .lines .ensures .0)) ∙ not-false _ (c .before .before .before .before .before .before .before .before .before .if1 .left)) (goes-on _ _ _ (sym (asked (codeRule g) 0 (c .before .before .before .before .before .before .before .every2 .ensures) (c .before .before .before .before .before .before .before .before .codes .ensures .0)) ∙ not-false _ (c .before .before .before .before .before .before .if2 .left)) (goes-on _ _ _ (sym (asked (fieldRule g) 0 (c .before .before .before .before .every3 .ensures) (c .before .before .before .before .before .fields .ensures .0)) ∙ not-false _ (c .before .before .before .if3 .left)) (fails-here _ _ (sym (asked (identifierRule g) 0 (c .before .every4 .ensures) (c .before .before .identifiers .ensures .0)) ∙ not-true _ (c .if4 .taken)))))
 
-rows-are-good-requires : tie.Need-rows-are-good-requires
-rows-are-good-requires c κs = search needs
+identifiers-requires-2 : tie.Need-identifiers-requires-2
+identifiers-requires-2 c κs = search needs
+
+lines-requires-2 : tie.Need-lines-requires-2
+lines-requires-2 c κs = search needs
+
+mul-rows : tie.Need-mul-rows
+mul-rows c = let few : c .before .identifiers2 .result * c .lines2 .result < 2 ^ 16 = rw (c .before .identifiers2 .ensures .0, c .lines2 .ensures .0) (c .before .before .before .before .before .before .before .before .before .before .before .before .before .before .before .pre .rows) in record { fits = omega arith }
+
+every-requires-5 : tie.Need-every-requires-5
+every-requires-5 c κs = let few : c .before .identifiers2 .result * c .lines2 .result < 2 ^ 16 = rw (c .before .identifiers2 .ensures .0, c .lines2 .ensures .0) (c .before .before .before .before .before .before .before .before .before .before .before .before .before .before .before .pre .rows) in (omega arith, c .before .before .before .before .before .before .before .before .before .before .before .before .before .before .before .pre .some-lines)
 
 returns-5 : tie.Need-returns-5
 unfolding recordsRule
-returns-5 c = goes-on _ _ _ (sym (c .before .before .before .before .before .before .before .before .lines-are-good .ensures) ∙ not-false _ (c .before .before .before .before .before .before .before .if1 .left)) (goes-on _ _ _ (sym (c .before .before .before .before .before .before .codes-are-good .ensures) ∙ not-false _ (c .before .before .before .before .before .if2 .left)) (goes-on _ _ _ (sym (c .before .before .before .before .fields-are-good .ensures) ∙ not-false _ (c .before .before .before .if3 .left)) (goes-on _ _ _ (sym (c .before .before .identifiers-are-good .ensures) ∙ not-false _ (c .before .if4 .left)) (c .rows-are-good .ensures))))
+returns-5 c = let g = guideOf (c .before .before .before .before .before .before .before .before .before .before .before .before .before .before .before .before .args .book .now) in goes-on _ _ _ (sym (asked (lineRule g) 1 (c .before .before .before .before .before .before .before .before .before .before .before .before .before .every .ensures) (c .before .before .before .before .before .before .before .before .before .before .before .before .before .before .lines .ensures .0)) ∙ not-false _ (c .before .before .before .before .before .before .before .before .before .before .before .before .if1 .left)) (goes-on _ _ _ (sym (asked (codeRule g) 0 (c .before .before .before .before .before .before .before .before .before .before .every2 .ensures) (c .before .before .before .before .before .before .before .before .before .before .before .codes .ensures .0)) ∙ not-false _ (c .before .before .before .before .before .before .before .before .before .if2 .left)) (goes-on _ _ _ (sym (asked (fieldRule g) 0 (c .before .before .before .before .before .before .before .every3 .ensures) (c .before .before .before .before .before .before .before .before .fields .ensures .0)) ∙ not-false _ (c .before .before .before .before .before .before .if3 .left)) (goes-on _ _ _ (sym (asked (identifierRule g) 0 (c .before .before .before .before .every4 .ensures) (c .before .before .before .before .before .identifiers .ensures .0)) ∙ not-false _ (c .before .before .before .if4 .left)) (asked (rowRule g) 0 (c .every5 .ensures) (ap₂ _*_ (c .before .before .identifiers2 .ensures .0) (c .before .lines2 .ensures .0))))))
 
 pub records-are-good-spec : {M : Type 1} → statement M
-records-are-good-spec =
-    tie.close
-    (tie.spec
-    lines-are-good-requires
-    returns
-    codes-are-good-requires
-    returns-2
-    fields-are-good-requires
-    returns-3
-    identifiers-are-good-requires
-    returns-4
-    rows-are-good-requires
-    returns-5)
+records-are-good-spec = tie.close (tie.spec lines-requires every-requires returns codes-requires every-requires-2 returns-2 fields-requires every-requires-3 returns-3 identifiers-requires every-requires-4 returns-4 identifiers-requires-2 lines-requires-2 mul-rows every-requires-5 returns-5)

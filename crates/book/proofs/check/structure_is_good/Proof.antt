@@ -1,13 +1,18 @@
--- `check::structure_is_good` meets its contract: it joins the tests of its parts as the rule joins its parts.
-use mathlib.Core.Bool.{_&&_}
-use mathlib.Core.Path.{ap₂}
+-- `check::structure_is_good` meets its contract: it joins the tests as the rule joins its parts.
 use borrow.Author.Needs.{needs}
-use Rattle.book.specs.GoodBook.{structureRule}
+use Rattle.book.specs.meaning.GoodBook.{structureRule}
+use Rattle.book.proofs.Joining.{both}
 use Rattle.book.proofs.check.structure_is_good.Statement.{statement}
 use Rattle.book.proofs.check.structure_is_good.Tie as tie
 
-suits-neighbours-requires : tie.Need-suits-neighbours-requires
-suits-neighbours-requires c κs = search needs
+fields-rise-requires : tie.Need-fields-rise-requires
+fields-rise-requires c κs = search needs
+
+has-trigger-requires : tie.Need-has-trigger-requires
+has-trigger-requires c κs = search needs
+
+stays-or-falls-requires : tie.Need-stays-or-falls-requires
+stays-or-falls-requires c κs = search needs
 
 is-no-other-frame-requires : tie.Need-is-no-other-frame-requires
 is-no-other-frame-requires c κs = search needs
@@ -17,13 +22,7 @@ suits-carrier-requires c κs = search needs
 
 returns : tie.Need-returns
 unfolding structureRule
-returns c = ap₂ _&&_ (c .before .before .suits-neighbours .ensures) (ap₂ _&&_ (c .before .is-no-other-frame .ensures) (c .suits-carrier .ensures))
+returns c = both (both (c .before .before .before .before .fields-rise .ensures) (both (c .before .before .before .has-trigger .ensures) (c .before .before .stays-or-falls .ensures))) (both (c .before .is-no-other-frame .ensures) (c .suits-carrier .ensures))
 
 pub structure-is-good-spec : {M : Type 1} → statement M
-structure-is-good-spec =
-    tie.close
-    (tie.spec
-    suits-neighbours-requires
-    is-no-other-frame-requires
-    suits-carrier-requires
-    returns)
+structure-is-good-spec = tie.close (tie.spec fields-rise-requires has-trigger-requires stays-or-falls-requires is-no-other-frame-requires suits-carrier-requires returns)

@@ -1,6 +1,11 @@
--- `check::suits_carrier` meets its contract: the tests are joined as the rule joins its parts.
+-- `check::suits_carrier` meets its contract: it joins the tests as the rule joins its parts.
+use Prim.Native.Nat.{ℕ}
+use mathlib.Core.Path.{_∙_, ap}
 use borrow.Author.Needs.{needs}
-use Rattle.book.specs.GoodBook.{carrierGroupRule}
+use Rattle.book.specs.meaning.GoodBook.{aroundRule, carrierGroupRule}
+use Rattle.book.specs.meaning.Guide.{guideOf}
+use Rattle.book.specs.meaning.Rule.{run}
+use Rattle.book.proofs.Joining.{both, if-then, is}
 use Rattle.book.proofs.check.suits_carrier.Statement.{statement}
 use Rattle.book.proofs.check.suits_carrier.Tie as tie
 
@@ -21,15 +26,7 @@ implies-requires c κs = search needs
 
 returns : tie.Need-returns
 unfolding carrierGroupRule
-returns c = cc
+returns c = if-then (c .implies .ensures) (c .before .before .before .is-around .ensures ∙ ap (λ (l : ℕ). run (aroundRule (guideOf (c .before .before .before .before .before .before .args .book .now)) (c .before .before .before .before .before .before .args .line) l)) (c .before .before .before .before .carrier .ensures .0)) (both (is 1 (c .before .before .required .ensures .0)) (is 1 (c .before .maximum .ensures .0)))
 
 pub suits-carrier-spec : {M : Type 1} → statement M
-suits-carrier-spec =
-    tie.close
-    (tie.spec
-    carrier-requires
-    is-around-requires
-    required-requires
-    maximum-requires
-    implies-requires
-    returns)
+suits-carrier-spec = tie.close (tie.spec carrier-requires is-around-requires required-requires maximum-requires implies-requires returns)

@@ -1,6 +1,8 @@
--- `codes::byte_is_good` meets its contract: the tests are joined as the rule joins its parts.
+-- `codes::byte_is_good` meets its contract: it joins the tests as the rule joins its parts.
+use Prim.Native.Nat.{_+_}
 use borrow.Author.Needs.{needs}
-use Rattle.book.specs.GoodBook.{codeByteRule}
+use Rattle.book.specs.meaning.GoodBook.{codeByteRule}
+use Rattle.book.proofs.Joining.{at-least, at-most, both, either, if-then, is, lies-between}
 use Rattle.book.proofs.codes.byte_is_good.Statement.{statement}
 use Rattle.book.proofs.codes.byte_is_good.Tie as tie
 
@@ -30,18 +32,7 @@ implies-requires-2 c κs = search needs
 
 returns : tie.Need-returns
 unfolding codeByteRule
-returns c = cc
+returns c = let x = c .before .before .before .before .before .code-byte .ensures .0 in both (if-then (c .before .implies .ensures) (at-least (c .before .before .before .before .before .before .before .before .args .byte + 1) (c .before .before .before .before .before .before .code-length .ensures .0)) (either (lies-between 0x41 0x5a (c .before .before .before .before .is-capital .ensures) x) (either (lies-between 0x61 0x7a (c .before .before .before .is-small .ensures) x) (either (lies-between 0x30 0x39 (c .before .before .is-digit .ensures) x) (is 0x2e x))))) (if-then (c .implies2 .ensures) (at-most (c .before .before .before .before .before .before .before .before .args .byte) (c .before .before .before .before .before .before .code-length .ensures .0)) (is 0 x))
 
 pub byte-is-good-spec : {M : Type 1} → statement M
-byte-is-good-spec =
-    tie.close
-    (tie.spec
-    code-length-requires
-    code-byte-requires
-    add-implies
-    is-capital-requires
-    is-small-requires
-    is-digit-requires
-    implies-requires
-    implies-requires-2
-    returns)
+byte-is-good-spec = tie.close (tie.spec code-length-requires code-byte-requires add-implies is-capital-requires is-small-requires is-digit-requires implies-requires implies-requires-2 returns)

@@ -1,23 +1,28 @@
--- `fields::field_is_good` meets its contract: the tests are joined as the rule joins its parts.
+-- `fields::field_is_good` meets its contract: it joins the tests as the rule joins its parts.
 use borrow.Author.Needs.{needs}
-use Rattle.book.specs.GoodBook.{fieldRule}
+use Rattle.book.specs.meaning.GoodBook.{fieldRule}
+use Rattle.book.specs.meaning.Words.{numberForm, textForm, withElementPresence}
+use Rattle.book.proofs.Joining.{at-least, at-most, both, either, in-range, is, lies-between}
 use Rattle.book.proofs.fields.field_is_good.Statement.{statement}
 use Rattle.book.proofs.fields.field_is_good.Tie as tie
 
 element-requires : tie.Need-element-requires
 element-requires c κs = search needs
 
+is-between-requires : tie.Need-is-between-requires
+is-between-requires c κs = search needs
+
 component-requires : tie.Need-component-requires
 component-requires c κs = search needs
+
+is-between-requires-2 : tie.Need-is-between-requires-2
+is-between-requires-2 c κs = search needs
 
 presence-requires : tie.Need-presence-requires
 presence-requires c κs = search needs
 
 form-requires : tie.Need-form-requires
 form-requires c κs = search needs
-
-is-between-requires : tie.Need-is-between-requires
-is-between-requires c κs = search needs
 
 longest-requires : tie.Need-longest-requires
 longest-requires c κs = search needs
@@ -39,21 +44,7 @@ is-range-requires c κs = search needs
 
 returns : tie.Need-returns
 unfolding fieldRule
-returns c = cc
+returns c = both (both (lies-between 1 255 (c .before .before .before .before .before .before .before .before .before .before .is-between .ensures) (c .before .before .before .before .before .before .before .before .before .before .before .element .ensures .0)) (both (lies-between 1 255 (c .before .before .before .before .before .before .before .before .is-between2 .ensures) (c .before .before .before .before .before .before .before .before .before .component .ensures .0)) (at-most withElementPresence (c .before .before .before .before .before .before .before .presence .ensures .0)))) (both (both (either (is textForm (c .before .before .before .before .before .before .form .ensures .0)) (is numberForm (c .before .before .before .before .before .before .form .ensures .0))) (both (at-least 1 (c .before .before .before .before .before .longest .ensures .0)) (is 0 (c .before .before .before .before .field-end .ensures .0)))) (in-range (c .is-range .ensures) (c .before .before .before .first-value .ensures .0) (c .before .before .value-count .ensures .0) (c .before .codes .ensures .0)))
 
 pub field-is-good-spec : {M : Type 1} → statement M
-field-is-good-spec =
-    tie.close
-    (tie.spec
-    element-requires
-    component-requires
-    presence-requires
-    form-requires
-    is-between-requires
-    longest-requires
-    field-end-requires
-    first-value-requires
-    value-count-requires
-    codes-requires
-    is-range-requires
-    returns)
+field-is-good-spec = tie.close (tie.spec element-requires is-between-requires component-requires is-between-requires-2 presence-requires form-requires longest-requires field-end-requires first-value-requires value-count-requires codes-requires is-range-requires returns)

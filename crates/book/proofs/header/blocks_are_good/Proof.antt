@@ -1,52 +1,38 @@
--- `header::blocks_are_good` meets its contract: the tests are joined as the rule joins its parts.
+-- `header::blocks_are_good` meets its contract: it joins the tests as the rule joins its parts.
+use mathlib.Core.Path.{_∙_, refl}
 use borrow.Author.Needs.{needs}
-use Rattle.book.specs.GoodBook.{blocksRule}
-use Rattle.book.specs.Guide.{guideOf}
+use Rattle.book.specs.meaning.GoodBook.{blocksRule}
+use Rattle.book.proofs.Joining.{are-same, both}
 use Rattle.book.proofs.header.blocks_are_good.Statement.{statement}
 use Rattle.book.proofs.header.blocks_are_good.Tie as tie
 
-u16-at-requires : tie.Need-u16-at-requires
-u16-at-requires c κs = search needs
+edition-of-requires : tie.Need-edition-of-requires
+edition-of-requires c κs = search needs
 
-u16-at-requires-2 : tie.Need-u16-at-requires-2
-u16-at-requires-2 c κs = search needs
+blocks-of-requires : tie.Need-blocks-of-requires
+blocks-of-requires c κs = search needs
 
-codes-from-requires : tie.Need-codes-from-requires
-codes-from-requires c κs = search needs
+cast-gives : tie.Need-cast-gives
+cast-gives c = search needs
 
-u16-at-requires-3 : tie.Need-u16-at-requires-3
-u16-at-requires-3 c κs = search needs
+gives-requires : tie.Need-gives-requires
+gives-requires c κs = search needs
 
-fields-from-requires : tie.Need-fields-from-requires
-fields-from-requires c κs = search needs
+gives-requires-2 : tie.Need-gives-requires-2
+gives-requires-2 c κs = search needs
 
-u16-at-requires-4 : tie.Need-u16-at-requires-4
-u16-at-requires-4 c κs = search needs
+gives-requires-3 : tie.Need-gives-requires-3
+gives-requires-3 c κs = search needs
 
-identifiers-from-requires : tie.Need-identifiers-from-requires
-identifiers-from-requires c κs = search needs
+gives-requires-4 : tie.Need-gives-requires-4
+gives-requires-4 c κs = search needs
 
-u16-at-requires-5 : tie.Need-u16-at-requires-5
-u16-at-requires-5 c κs = search needs
-
-rows-from-requires : tie.Need-rows-from-requires
-rows-from-requires c κs = search needs
+gives-requires-5 : tie.Need-gives-requires-5
+gives-requires-5 c κs = search needs
 
 returns : tie.Need-returns
-unfolding guideOf blocksRule
-returns c = cc
+unfolding blocksRule
+returns c = both (c .before .before .before .before .gives .ensures ∙ are-same refl (c .before .before .before .before .before .before .before .edition-of .ensures .header)) (both (c .before .before .before .gives2 .ensures ∙ are-same refl (c .before .before .before .before .before .before .blocks-of .ensures .codes)) (both (c .before .before .gives3 .ensures ∙ are-same refl (c .before .before .before .before .before .before .blocks-of .ensures .fields)) (both (c .before .gives4 .ensures ∙ are-same refl (c .before .before .before .before .before .before .blocks-of .ensures .identifiers)) (c .gives5 .ensures ∙ are-same refl (c .before .before .before .before .before .before .blocks-of .ensures .rows)))))
 
 pub blocks-are-good-spec : {M : Type 1} → statement M
-blocks-are-good-spec =
-    tie.close
-    (tie.spec
-    u16-at-requires
-    u16-at-requires-2
-    codes-from-requires
-    u16-at-requires-3
-    fields-from-requires
-    u16-at-requires-4
-    identifiers-from-requires
-    u16-at-requires-5
-    rows-from-requires
-    returns)
+blocks-are-good-spec = tie.close (tie.spec edition-of-requires blocks-of-requires cast-gives gives-requires gives-requires-2 gives-requires-3 gives-requires-4 gives-requires-5 returns)

@@ -1,8 +1,12 @@
--- `header::edition_is_good` meets its contract: the tests are joined as the rule joins its parts.
+-- `header::edition_is_good` meets its contract: it joins the tests as the rule joins its parts.
 use borrow.Author.Needs.{needs}
-use Rattle.book.specs.GoodBook.{editionRule}
+use Rattle.book.specs.meaning.GoodBook.{editionRule}
+use Rattle.book.proofs.Joining.{are-same, both, is}
 use Rattle.book.proofs.header.edition_is_good.Statement.{statement}
 use Rattle.book.proofs.header.edition_is_good.Tie as tie
+
+edition-of-requires : tie.Need-edition-of-requires
+edition-of-requires c κs = search needs
 
 u16-at-requires : tie.Need-u16-at-requires
 u16-at-requires c κs = search needs
@@ -12,7 +16,7 @@ u16-at-requires-2 c κs = search needs
 
 returns : tie.Need-returns
 unfolding editionRule
-returns c = cc
+returns c = both (are-same (c .before .before .u16-at .ensures .0) (c .before .before .before .edition-of .ensures .number)) (is 0 (c .u16-at2 .ensures .0))
 
 pub edition-is-good-spec : {M : Type 1} → statement M
-edition-is-good-spec = tie.close (tie.spec u16-at-requires u16-at-requires-2 returns)
+edition-is-good-spec = tie.close (tie.spec edition-of-requires u16-at-requires u16-at-requires-2 returns)

@@ -3,8 +3,8 @@
 use Prim.Native.Nat.{ℕ, _-_}
 use native.Mathlib.Omega.{arith}
 use mathlib.Core.Path.{refl, sym, _∙_}
-use Rattle.book.specs.Each.{PassedTo}
-use Rattle.book.specs.Guide.{guideOf}
+use Rattle.book.specs.method.Each.{PassedTo}
+use Rattle.book.specs.meaning.Guide.{guideOf}
 use Rattle.book.proofs.Passing.{passed-on}
 use borrow.Author.Needs.{needs}
 use Rattle.book.proofs.homes.first_of_its_tag.Statement.{statement}

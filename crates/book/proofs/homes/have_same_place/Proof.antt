@@ -1,6 +1,7 @@
--- `homes::have_same_place` meets its contract: the tests are joined as the rule joins its parts.
+-- `homes::have_same_place` meets its contract: it joins the tests as the rule joins its parts.
 use borrow.Author.Needs.{needs}
-use Rattle.book.specs.GoodBook.{samePlaceRule}
+use Rattle.book.specs.meaning.GoodBook.{samePlaceRule}
+use Rattle.book.proofs.Joining.{are-same, at-least, both}
 use Rattle.book.proofs.homes.have_same_place.Statement.{statement}
 use Rattle.book.proofs.homes.have_same_place.Tie as tie
 
@@ -18,14 +19,7 @@ selector-component-requires-2 c κs = search needs
 
 returns : tie.Need-returns
 unfolding samePlaceRule
-returns c = cc
+returns c = both (at-least 1 (c .before .before .before .selector-element .ensures .0)) (both (are-same (c .before .before .before .selector-element .ensures .0) (c .before .selector-element2 .ensures .0)) (are-same (c .before .before .selector-component .ensures .0) (c .selector-component2 .ensures .0)))
 
 pub have-same-place-spec : {M : Type 1} → statement M
-have-same-place-spec =
-    tie.close
-    (tie.spec
-    selector-element-requires
-    selector-component-requires
-    selector-element-requires-2
-    selector-component-requires-2
-    returns)
+have-same-place-spec = tie.close (tie.spec selector-element-requires selector-component-requires selector-element-requires-2 selector-component-requires-2 returns)

@@ -1,6 +1,8 @@
--- `homes::have_same_tag` meets its contract: the tests are joined as the rule joins its parts.
+-- `homes::have_same_tag` meets its contract: it joins the tests as the rule joins its parts.
 use borrow.Author.Needs.{needs}
-use Rattle.book.specs.GoodBook.{sameTagRule}
+use Rattle.book.specs.meaning.GoodBook.{sameTagRule}
+use Rattle.book.specs.meaning.Words.{segmentKind}
+use Rattle.book.proofs.Joining.{are-same, both, is}
 use Rattle.book.proofs.homes.have_same_tag.Statement.{statement}
 use Rattle.book.proofs.homes.have_same_tag.Tie as tie
 
@@ -18,8 +20,7 @@ tag-requires-2 c κs = search needs
 
 returns : tie.Need-returns
 unfolding sameTagRule
-returns c = cc
+returns c = both (is segmentKind (c .before .before .before .kind .ensures .0)) (both (is segmentKind (c .before .before .kind2 .ensures .0)) (are-same (c .before .tag .ensures .0) (c .tag2 .ensures .0)))
 
 pub have-same-tag-spec : {M : Type 1} → statement M
-have-same-tag-spec =
-    tie.close (tie.spec kind-requires kind-requires-2 tag-requires tag-requires-2 returns)
+have-same-tag-spec = tie.close (tie.spec kind-requires kind-requires-2 tag-requires tag-requires-2 returns)

@@ -4,9 +4,9 @@ use native.Mathlib.Omega.{arith}
 use mathlib.Core.Path.{_≡_, sym, ap, _∙_}
 use borrow.Author.Needs.{needs}
 use borrow.Author.Tests.{not-true, not-false}
-use Rattle.book.specs.Each.{homeRule}
-use Rattle.book.specs.Guide.{guideOf}
-use Rattle.book.specs.Rule.{run, all}
+use Rattle.book.specs.method.Each.{homeRule}
+use Rattle.book.specs.meaning.Guide.{guideOf}
+use Rattle.book.specs.meaning.Rule.{run, all}
 use Rattle.book.proofs.Rules.{all-end, all-fail, all-on}
 use Rattle.book.proofs.homes.homes_are_good.Statement.{statement}
 use Rattle.book.proofs.homes.homes_are_good.Tie as tie

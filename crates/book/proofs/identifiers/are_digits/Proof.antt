@@ -1,5 +1,6 @@
--- `identifiers::are_digits` meets its contract: the tests are joined as the rule joins its parts.
+-- `identifiers::are_digits` meets its contract: it joins the tests as the rule joins its parts.
 use borrow.Author.Needs.{needs}
+use Rattle.book.proofs.Joining.{both, lies-between}
 use Rattle.book.proofs.identifiers.are_digits.Statement.{statement}
 use Rattle.book.proofs.identifiers.are_digits.Tie as tie
 
@@ -34,20 +35,7 @@ is-digit-requires-5 : tie.Need-is-digit-requires-5
 is-digit-requires-5 c κs = search needs
 
 returns : tie.Need-returns
-returns c = cc
+returns c = both (lies-between 0x30 0x39 (c .before .before .before .before .before .before .before .before .is-digit .ensures) (c .before .before .before .before .before .before .before .before .before .identifier-byte .ensures .0)) (both (lies-between 0x30 0x39 (c .before .before .before .before .before .before .is-digit2 .ensures) (c .before .before .before .before .before .before .before .identifier-byte2 .ensures .0)) (both (lies-between 0x30 0x39 (c .before .before .before .before .is-digit3 .ensures) (c .before .before .before .before .before .identifier-byte3 .ensures .0)) (both (lies-between 0x30 0x39 (c .before .before .is-digit4 .ensures) (c .before .before .before .identifier-byte4 .ensures .0)) (lies-between 0x30 0x39 (c .is-digit5 .ensures) (c .before .identifier-byte5 .ensures .0)))))
 
 pub are-digits-spec : {M : Type 1} → statement M
-are-digits-spec =
-    tie.close
-    (tie.spec
-    identifier-byte-requires
-    is-digit-requires
-    identifier-byte-requires-2
-    is-digit-requires-2
-    identifier-byte-requires-3
-    is-digit-requires-3
-    identifier-byte-requires-4
-    is-digit-requires-4
-    identifier-byte-requires-5
-    is-digit-requires-5
-    returns)
+are-digits-spec = tie.close (tie.spec identifier-byte-requires is-digit-requires identifier-byte-requires-2 is-digit-requires-2 identifier-byte-requires-3 is-digit-requires-3 identifier-byte-requires-4 is-digit-requires-4 identifier-byte-requires-5 is-digit-requires-5 returns)

@@ -1,6 +1,8 @@
--- `identifiers::rises` meets its contract: the tests are joined as the rule joins its parts.
+-- `identifiers::rises` meets its contract: it joins the tests as the rule joins its parts.
+use Prim.Native.Nat.{_+_}
 use borrow.Author.Needs.{needs}
-use Rattle.book.specs.GoodBook.{identifierRises}
+use Rattle.book.specs.meaning.GoodBook.{identifierRises}
+use Rattle.book.proofs.Joining.{at-least, if-then, rising}
 use Rattle.book.proofs.identifiers.rises.Statement.{statement}
 use Rattle.book.proofs.identifiers.rises.Tie as tie
 
@@ -27,17 +29,7 @@ implies-requires c κs = search needs
 
 returns : tie.Need-returns
 unfolding identifierRises
-returns c = cc
+returns c = if-then (c .implies .ensures) (at-least (c .before .before .before .before .before .args .identifier + 1 + 1) (c .before .before .before .identifiers .ensures .0)) (rising (c .before .before .number-of .ensures .0) (c .before .number-of2 .ensures .0))
 
 pub rises-spec : {M : Type 1} → statement M
-rises-spec =
-    tie.close
-    (tie.spec
-    add-next
-    add-implies
-    identifiers-requires
-    number-of-requires
-    add-implies-2
-    number-of-requires-2
-    implies-requires
-    returns)
+rises-spec = tie.close (tie.spec add-next add-implies identifiers-requires number-of-requires add-implies-2 number-of-requires-2 implies-requires returns)

@@ -1,6 +1,6 @@
 -- `layout::first_value` meets its contract: the guide's number of that name stands at that offset.
 use borrow.Author.Needs.{needs}
-use Rattle.book.specs.Guide.{guideOf}
+use Rattle.book.specs.meaning.Guide.{guideOf}
 use Rattle.book.proofs.layout.first_value.Statement.{statement}
 use Rattle.book.proofs.layout.first_value.Tie as tie
 

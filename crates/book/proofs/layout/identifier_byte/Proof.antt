@@ -1,19 +1,21 @@
 -- `layout::identifier_byte` meets its contract: the guide's number of that name stands at that offset.
 use borrow.Author.Needs.{needs}
-use Rattle.book.specs.Guide.{guideOf}
+use Rattle.book.specs.meaning.Guide.{guideOf}
 use Rattle.book.proofs.layout.identifier_byte.Statement.{statement}
 use Rattle.book.proofs.layout.identifier_byte.Tie as tie
 
-add-identifier-byte-at : tie.Need-add-identifier-byte-at
-add-identifier-byte-at c = search needs
+identifier-at-requires : tie.Need-identifier-at-requires
+identifier-at-requires c κs = search needs
 
-identifier-byte-at-requires : tie.Need-identifier-byte-at-requires
-identifier-byte-at-requires c κs = search needs
+add-byte-at : tie.Need-add-byte-at
+add-byte-at c = search needs
+
+byte-at-requires : tie.Need-byte-at-requires
+byte-at-requires c κs = search needs
 
 returns : tie.Need-returns
 unfolding guideOf
-returns c = c .identifier-byte-at .ensures
+returns c = rw (← c .before .identifier-at .ensures .0) (c .byte-at .ensures)
 
 pub identifier-byte-spec : {M : Type 1} → statement M
-identifier-byte-spec =
-    tie.close (tie.spec add-identifier-byte-at identifier-byte-at-requires returns)
+identifier-byte-spec = tie.close (tie.spec identifier-at-requires add-byte-at byte-at-requires returns)

@@ -1,6 +1,6 @@
 -- `layout::tag_byte` meets its contract: the guide's number of that name stands at that offset.
 use borrow.Author.Needs.{needs}
-use Rattle.book.specs.Guide.{guideOf}
+use Rattle.book.specs.meaning.Guide.{guideOf}
 use Rattle.book.proofs.layout.tag_byte.Statement.{statement}
 use Rattle.book.proofs.layout.tag_byte.Tie as tie
 

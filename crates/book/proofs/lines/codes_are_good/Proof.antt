@@ -1,6 +1,7 @@
--- `lines::codes_are_good` meets its contract: the tests are joined as the rule joins its parts.
+-- `lines::codes_are_good` meets its contract: it joins the tests as the rule joins its parts.
 use borrow.Author.Needs.{needs}
-use Rattle.book.specs.GoodBook.{requiredRule, selectorRule, codeRangeRule}
+use Rattle.book.specs.meaning.GoodBook.{codeRangeRule, requiredRule}
+use Rattle.book.proofs.Joining.{at-most, both, in-range}
 use Rattle.book.proofs.lines.codes_are_good.Statement.{statement}
 use Rattle.book.proofs.lines.codes_are_good.Tie as tie
 
@@ -23,17 +24,8 @@ is-range-requires : tie.Need-is-range-requires
 is-range-requires c κs = search needs
 
 returns : tie.Need-returns
-unfolding requiredRule selectorRule codeRangeRule
-returns c = cc
+unfolding requiredRule codeRangeRule
+returns c = both (at-most 1 (c .before .before .before .required .ensures .0)) (both (c .before .before .selector-is-good .ensures) (in-range (c .is-range .ensures) (c .before .before .before .before .before .first-code .ensures .0) (c .before .before .before .before .code-count .ensures .0) (c .before .codes .ensures .0)))
 
 pub codes-are-good-spec : {M : Type 1} → statement M
-codes-are-good-spec =
-    tie.close
-    (tie.spec
-    first-code-requires
-    code-count-requires
-    required-requires
-    selector-is-good-requires
-    codes-requires
-    is-range-requires
-    returns)
+codes-are-good-spec = tie.close (tie.spec first-code-requires code-count-requires required-requires selector-is-good-requires codes-requires is-range-requires returns)

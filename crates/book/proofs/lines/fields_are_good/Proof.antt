@@ -1,6 +1,8 @@
--- `lines::fields_are_good` meets its contract: the tests are joined as the rule joins its parts.
+-- `lines::fields_are_good` meets its contract: it joins the tests as the rule joins its parts.
 use borrow.Author.Needs.{needs}
-use Rattle.book.specs.GoodBook.{maximumRule, fieldRangeRule, groupRule}
+use Rattle.book.specs.meaning.GoodBook.{fieldRangeRule, groupRule, maximumRule}
+use Rattle.book.specs.meaning.Words.{groupKind}
+use Rattle.book.proofs.Joining.{both, if-then, in-range, is, lies-between}
 use Rattle.book.proofs.lines.fields_are_good.Statement.{statement}
 use Rattle.book.proofs.lines.fields_are_good.Tie as tie
 
@@ -33,19 +35,7 @@ implies-requires c κs = search needs
 
 returns : tie.Need-returns
 unfolding maximumRule fieldRangeRule groupRule
-returns c = cc
+returns c = both (lies-between 1 999999 (c .before .before .before .before .is-between .ensures) (c .before .before .before .before .before .maximum .ensures .0)) (both (in-range (c .before .before .is-range .ensures) (c .before .before .before .before .before .before .before .before .first-field .ensures .0) (c .before .before .before .before .before .before .before .field-count .ensures .0) (c .before .before .before .fields .ensures .0)) (if-then (c .implies .ensures) (is groupKind (c .before .kind .ensures .0)) (both (is 0 (c .before .before .before .before .before .before .code-count .ensures .0)) (is 0 (c .before .before .before .before .before .before .before .field-count .ensures .0)))))
 
 pub fields-are-good-spec : {M : Type 1} → statement M
-fields-are-good-spec =
-    tie.close
-    (tie.spec
-    first-field-requires
-    field-count-requires
-    code-count-requires
-    maximum-requires
-    is-between-requires
-    fields-requires
-    is-range-requires
-    kind-requires
-    implies-requires
-    returns)
+fields-are-good-spec = tie.close (tie.spec first-field-requires field-count-requires code-count-requires maximum-requires is-between-requires fields-requires is-range-requires kind-requires implies-requires returns)

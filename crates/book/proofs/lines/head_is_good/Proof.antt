@@ -1,22 +1,23 @@
--- `lines::head_is_good` meets its contract: it joins the tests of its parts as the rule joins its parts.
-use mathlib.Core.Bool.{_&&_}
-use mathlib.Core.Path.{ap₂}
+-- `lines::head_is_good` meets its contract: it joins the tests as the rules join their parts.
 use borrow.Author.Needs.{needs}
+use Rattle.book.specs.meaning.GoodBook.{depthRule, kindRule}
+use Rattle.book.specs.meaning.Words.{groupKind, segmentKind}
+use Rattle.book.proofs.Joining.{at-most, both, either, is}
 use Rattle.book.proofs.lines.head_is_good.Statement.{statement}
 use Rattle.book.proofs.lines.head_is_good.Tie as tie
 
-kind-is-good-requires : tie.Need-kind-is-good-requires
-kind-is-good-requires c κs = search needs
+kind-requires : tie.Need-kind-requires
+kind-requires c κs = search needs
 
-depth-is-good-requires : tie.Need-depth-is-good-requires
-depth-is-good-requires c κs = search needs
+depth-requires : tie.Need-depth-requires
+depth-requires c κs = search needs
 
 tag-is-good-requires : tie.Need-tag-is-good-requires
 tag-is-good-requires c κs = search needs
 
 returns : tie.Need-returns
-returns c = ap₂ _&&_ (c .before .before .kind-is-good .ensures) (ap₂ _&&_ (c .before .depth-is-good .ensures) (c .tag-is-good .ensures))
+unfolding kindRule depthRule
+returns c = both (either (is segmentKind (c .before .before .kind .ensures .0)) (is groupKind (c .before .before .kind .ensures .0))) (both (at-most 7 (c .before .depth .ensures .0)) (c .tag-is-good .ensures))
 
 pub head-is-good-spec : {M : Type 1} → statement M
-head-is-good-spec =
-    tie.close (tie.spec kind-is-good-requires depth-is-good-requires tag-is-good-requires returns)
+head-is-good-spec = tie.close (tie.spec kind-requires depth-requires tag-is-good-requires returns)

@@ -1,6 +1,9 @@
--- `lines::tag_byte_is_good` meets its contract: the tests are joined as the rule joins its parts.
+-- `lines::tag_byte_is_good` meets its contract: it joins the tests as the rule joins its parts.
+use lib.Dec.{eqb}
 use borrow.Author.Needs.{needs}
-use Rattle.book.specs.GoodBook.{tagByteRule}
+use Rattle.book.specs.meaning.GoodBook.{tagByteRule}
+use Rattle.book.specs.meaning.Words.{groupKind, segmentKind}
+use Rattle.book.proofs.Joining.{as-is, both, either, if-then, is}
 use Rattle.book.proofs.lines.tag_byte_is_good.Statement.{statement}
 use Rattle.book.proofs.lines.tag_byte_is_good.Tie as tie
 
@@ -21,15 +24,7 @@ implies-requires-2 c κs = search needs
 
 returns : tie.Need-returns
 unfolding tagByteRule
-returns c = cc
+returns c = both (if-then (c .before .implies .ensures) (is segmentKind (c .before .before .before .before .kind .ensures .0)) (either (c .before .before .before .is-capital .ensures) (c .before .before .is-digit .ensures))) (if-then (c .implies2 .ensures) (is groupKind (c .before .before .before .before .kind .ensures .0)) (as-is (eqb (c .before .before .before .before .before .before .args .byte) 0)))
 
 pub tag-byte-is-good-spec : {M : Type 1} → statement M
-tag-byte-is-good-spec =
-    tie.close
-    (tie.spec
-    kind-requires
-    is-capital-requires
-    is-digit-requires
-    implies-requires
-    implies-requires-2
-    returns)
+tag-byte-is-good-spec = tie.close (tie.spec kind-requires is-capital-requires is-digit-requires implies-requires implies-requires-2 returns)

@@ -1,6 +1,11 @@
--- `lines::tag_is_good` meets its contract: the tests are joined as the rule joins its parts.
+-- `lines::tag_is_good` meets its contract: the bytes that are read are the tag's.
+use Prim.Native.Nat.{ℕ}
+use mathlib.Core.Path.{_∙_, ap}
 use borrow.Author.Needs.{needs}
-use Rattle.book.specs.GoodBook.{tagRule}
+use Rattle.book.specs.meaning.GoodBook.{tagByteRule, tagRule}
+use Rattle.book.specs.meaning.Guide.{guideOf}
+use Rattle.book.specs.meaning.Rule.{run}
+use Rattle.book.proofs.Joining.{both}
 use Rattle.book.proofs.lines.tag_is_good.Statement.{statement}
 use Rattle.book.proofs.lines.tag_is_good.Tie as tie
 
@@ -24,16 +29,7 @@ tag-byte-is-good-requires-3 c κs = search needs
 
 returns : tie.Need-returns
 unfolding tagRule
-returns c = cc
+returns c = both (c .before .before .before .before .tag-byte-is-good .ensures ∙ ap (λ (x : ℕ). run (tagByteRule (guideOf (c .before .before .before .before .before .before .before .args .book .now)) (c .before .before .before .before .before .before .before .args .line) x)) (c .before .before .before .before .before .tag-byte .ensures .0)) (both (c .before .before .tag-byte-is-good2 .ensures ∙ ap (λ (x : ℕ). run (tagByteRule (guideOf (c .before .before .before .before .before .before .before .args .book .now)) (c .before .before .before .before .before .before .before .args .line) x)) (c .before .before .before .tag-byte2 .ensures .0)) (c .tag-byte-is-good3 .ensures ∙ ap (λ (x : ℕ). run (tagByteRule (guideOf (c .before .before .before .before .before .before .before .args .book .now)) (c .before .before .before .before .before .before .before .args .line) x)) (c .before .tag-byte3 .ensures .0)))
 
 pub tag-is-good-spec : {M : Type 1} → statement M
-tag-is-good-spec =
-    tie.close
-    (tie.spec
-    tag-byte-requires
-    tag-byte-is-good-requires
-    tag-byte-requires-2
-    tag-byte-is-good-requires-2
-    tag-byte-requires-3
-    tag-byte-is-good-requires-3
-    returns)
+tag-is-good-spec = tie.close (tie.spec tag-byte-requires tag-byte-is-good-requires tag-byte-requires-2 tag-byte-is-good-requires-2 tag-byte-requires-3 tag-byte-is-good-requires-3 returns)

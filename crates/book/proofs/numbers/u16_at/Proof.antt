@@ -38,7 +38,7 @@ byte-at-requires : tie.Need-byte-at-requires
 byte-at-requires c κs = search needs
 
 returns-2 : tie.Need-returns-2
-returns-2 c = let z = List·getD-eq-default (c .before .before .before .args .bytes .now) 0 {n = (c .before .before .before .args .at) + 1} (c .before .if1 .left) in (omega (arith, z, (c .byte-at .ensures .0)), omega (arith, (c .byte-at .ensures .1)))
+returns-2 c = let z = List·getD-eq-default (c .before .before .before .args .book .now) 0 {n = (c .before .before .before .args .at) + 1} (c .before .if1 .left) in (omega (arith, z, (c .byte-at .ensures .0)), omega (arith, (c .byte-at .ensures .1)))
 
 pub u16-at-spec : {M : Type 1} → statement M
 u16-at-spec =

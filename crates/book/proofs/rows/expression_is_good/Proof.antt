@@ -1,6 +1,12 @@
--- `rows::expression_is_good` meets its contract: the tests are joined as the rule joins its parts.
+-- `rows::expression_is_good` meets its contract: it joins the tests as the rule joins its parts, of the conditions that were read.
+use Prim.Native.Nat.{ℕ}
+use mathlib.Core.Path.{_∙_, ap, ap₂}
 use borrow.Author.Needs.{needs}
-use Rattle.book.specs.GoodBook.{expressionRule}
+use Rattle.book.specs.meaning.GoodBook.{expressionRule, literalRule, nextLiteralRule}
+use Rattle.book.specs.meaning.Guide.{guideOf}
+use Rattle.book.specs.meaning.Rule.{run}
+use Rattle.book.specs.meaning.Words.{allJoint, anyJoint}
+use Rattle.book.proofs.Joining.{both, either, if-then, is}
 use Rattle.book.proofs.rows.expression_is_good.Statement.{statement}
 use Rattle.book.proofs.rows.expression_is_good.Tie as tie
 
@@ -25,27 +31,12 @@ is-next-literal-requires c κs = search needs
 is-next-literal-requires-2 : tie.Need-is-next-literal-requires-2
 is-next-literal-requires-2 c κs = search needs
 
-is-between-requires : tie.Need-is-between-requires
-is-between-requires c κs = search needs
-
 implies-requires : tie.Need-implies-requires
 implies-requires c κs = search needs
 
 returns : tie.Need-returns
 unfolding expressionRule
-returns c = cc
+returns c = let g = guideOf (c .before .before .before .before .before .before .before .before .before .args .book .now) in let a = c .before .before .before .before .before .before .condition .ensures .0 in let b = c .before .before .before .before .before .condition2 .ensures .0 in let d = c .before .before .before .before .condition3 .ensures .0 in let j = c .before .before .before .before .before .before .before .joint .ensures .0 in both (c .before .before .before .is-literal .ensures ∙ ap (λ (x : ℕ). run (literalRule g x)) a) (both (c .before .before .is-next-literal .ensures ∙ ap₂ (λ (x y : ℕ). run (nextLiteralRule g x y)) a b) (both (c .before .is-next-literal2 .ensures ∙ ap₂ (λ (x y : ℕ). run (nextLiteralRule g x y)) b d) (both (either (is allJoint j) (is anyJoint j)) (if-then (c .implies .ensures) (is 0 b) (both (is 0 d) (is allJoint j))))))
 
 pub expression-is-good-spec : {M : Type 1} → statement M
-expression-is-good-spec =
-    tie.close
-    (tie.spec
-    joint-requires
-    condition-requires
-    condition-requires-2
-    condition-requires-3
-    is-literal-requires
-    is-next-literal-requires
-    is-next-literal-requires-2
-    is-between-requires
-    implies-requires
-    returns)
+expression-is-good-spec = tie.close (tie.spec joint-requires condition-requires condition-requires-2 condition-requires-3 is-literal-requires is-next-literal-requires is-next-literal-requires-2 implies-requires returns)

@@ -1,6 +1,7 @@
--- `rows::has_no_expression` meets its contract: the tests are joined as the rule joins its parts.
+-- `rows::has_no_expression` meets its contract: it joins the tests as the rule joins its parts.
 use borrow.Author.Needs.{needs}
-use Rattle.book.specs.GoodBook.{noExpressionRule}
+use Rattle.book.specs.meaning.GoodBook.{noExpressionRule}
+use Rattle.book.proofs.Joining.{both, is}
 use Rattle.book.proofs.rows.has_no_expression.Statement.{statement}
 use Rattle.book.proofs.rows.has_no_expression.Tie as tie
 
@@ -18,9 +19,7 @@ condition-requires-3 c κs = search needs
 
 returns : tie.Need-returns
 unfolding noExpressionRule
-returns c = cc
+returns c = both (is 0 (c .before .before .before .joint .ensures .0)) (both (is 0 (c .before .before .condition .ensures .0)) (both (is 0 (c .before .condition2 .ensures .0)) (is 0 (c .condition3 .ensures .0))))
 
 pub has-no-expression-spec : {M : Type 1} → statement M
-has-no-expression-spec =
-    tie.close
-    (tie.spec joint-requires condition-requires condition-requires-2 condition-requires-3 returns)
+has-no-expression-spec = tie.close (tie.spec joint-requires condition-requires condition-requires-2 condition-requires-3 returns)

@@ -1,6 +1,8 @@
--- `rows::mode_is_good` meets its contract: the tests are joined as the rule joins its parts.
+-- `rows::mode_is_good` meets its contract: it joins the tests as the rule joins its parts.
 use borrow.Author.Needs.{needs}
-use Rattle.book.specs.GoodBook.{modeRule}
+use Rattle.book.specs.meaning.GoodBook.{modeRule}
+use Rattle.book.specs.meaning.Words.{mayIfMode, mayMode, mustIfMode}
+use Rattle.book.proofs.Joining.{at-least, at-most, both, if-then}
 use Rattle.book.proofs.rows.mode_is_good.Statement.{statement}
 use Rattle.book.proofs.rows.mode_is_good.Tie as tie
 
@@ -21,15 +23,7 @@ implies-requires-2 c κs = search needs
 
 returns : tie.Need-returns
 unfolding modeRule
-returns c = cc
+returns c = both (at-most mayIfMode (c .before .before .before .before .mode .ensures .0)) (both (if-then (c .before .before .implies .ensures) (at-most mayMode (c .before .before .before .before .mode .ensures .0)) (c .before .before .before .has-no-expression .ensures)) (if-then (c .implies2 .ensures) (at-least mustIfMode (c .before .before .before .before .mode .ensures .0)) (c .before .expression-is-good .ensures)))
 
 pub mode-is-good-spec : {M : Type 1} → statement M
-mode-is-good-spec =
-    tie.close
-    (tie.spec
-    mode-requires
-    has-no-expression-requires
-    implies-requires
-    expression-is-good-requires
-    implies-requires-2
-    returns)
+mode-is-good-spec = tie.close (tie.spec mode-requires has-no-expression-requires implies-requires expression-is-good-requires implies-requires-2 returns)

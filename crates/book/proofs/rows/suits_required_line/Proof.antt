@@ -1,8 +1,13 @@
--- `rows::suits_required_line` meets its contract: the tests are joined as the rule joins its parts.
+-- `rows::suits_required_line` meets its contract: it joins the tests as the rule joins its parts, of the line that the row is of.
+use Prim.Native.Nat.{_%_, _+_, ℕ}
 use native.Mathlib.Nat.{mod-lt}
 use native.Mathlib.Omega.{arith}
+use mathlib.Core.Path.{_∙_, ap}
 use borrow.Author.Needs.{needs}
-use Rattle.book.specs.GoodBook.{requiredRowRule}
+use Rattle.book.specs.meaning.GoodBook.{requiredRowRule}
+use Rattle.book.specs.meaning.Guide.{guideOf}
+use Rattle.book.specs.meaning.Words.{mustMode}
+use Rattle.book.proofs.Joining.{if-then, is}
 use Rattle.book.proofs.rows.suits_required_line.Statement.{statement}
 use Rattle.book.proofs.rows.suits_required_line.Tie as tie
 
@@ -26,16 +31,7 @@ implies-requires c κs = search needs
 
 returns : tie.Need-returns
 unfolding requiredRowRule
-returns c = cc
+returns c = if-then (c .implies .ensures) (is 1 (c .before .before .required .ensures .0 ∙ ap (λ (n : ℕ). guideOf (c .before .before .before .before .before .args .book .now) .required (c .before .before .before .before .before .args .row % n + 1)) (c .before .before .before .lines .ensures .0))) (is mustMode (c .before .mode .ensures .0))
 
 pub suits-required-line-spec : {M : Type 1} → statement M
-suits-required-line-spec =
-    tie.close
-    (tie.spec
-    lines-requires
-    rem-line
-    add-line
-    required-requires
-    mode-requires
-    implies-requires
-    returns)
+suits-required-line-spec = tie.close (tie.spec lines-requires rem-line add-line required-requires mode-requires implies-requires returns)

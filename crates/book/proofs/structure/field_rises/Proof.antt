@@ -1,9 +1,7 @@
 -- `structure::field_rises` meets its contract: the places that are read are those of the rule.
-use Prim.Native.Nat.{ℕ, _+_}
-use mathlib.Core.Path.{ap₂}
-use lib.Dec.{leb}
 use borrow.Author.Needs.{needs}
-use Rattle.book.specs.GoodBook.{fieldRises}
+use Rattle.book.specs.meaning.GoodBook.{fieldRises}
+use Rattle.book.proofs.Joining.{rising}
 use Rattle.book.proofs.structure.field_rises.Statement.{statement}
 use Rattle.book.proofs.structure.field_rises.Tie as tie
 
@@ -21,9 +19,7 @@ field-place-requires-2 c κs = search needs
 
 returns : tie.Need-returns
 unfolding fieldRises
-returns c = ap₂ (λ (x y : ℕ). leb (x + 1) y) (c .before .field-place .ensures .0) (c .field-place2 .ensures .0)
+returns c = rising (c .before .field-place .ensures .0) (c .field-place2 .ensures .0)
 
 pub field-rises-spec : {M : Type 1} → statement M
-field-rises-spec =
-    tie.close
-    (tie.spec field-place-requires add-result add-field-place field-place-requires-2 returns)
+field-rises-spec = tie.close (tie.spec field-place-requires add-result add-field-place field-place-requires-2 returns)

@@ -1,6 +1,12 @@
--- `structure::has_carrier` meets its contract: the tests are joined as the rule joins its parts.
+-- `structure::has_carrier` meets its contract: it joins the tests as the rule joins its parts, of the line that was read.
+use Prim.Native.Nat.{ℕ}
+use mathlib.Core.Path.{_∙_, ap, ap₂}
 use borrow.Author.Needs.{needs}
-use Rattle.book.specs.GoodBook.{carrierRule}
+use Rattle.book.specs.meaning.GoodBook.{between, carrierRule}
+use Rattle.book.specs.meaning.Guide.{guideOf}
+use Rattle.book.specs.meaning.Rule.{run}
+use Rattle.book.specs.meaning.Words.{segmentKind}
+use Rattle.book.proofs.Joining.{both, is}
 use Rattle.book.proofs.structure.has_carrier.Statement.{statement}
 use Rattle.book.proofs.structure.has_carrier.Tie as tie
 
@@ -24,16 +30,7 @@ maximum-requires c κs = search needs
 
 returns : tie.Need-returns
 unfolding carrierRule
-returns c = cc
+returns c = let bs = c .before .before .before .before .before .before .before .args .book .now in let l = c .before .before .before .before .before .carrier .ensures .0 in both (c .before .before .before .is-between .ensures ∙ ap₂ (λ (x n : ℕ). run (between 1 x n)) l (c .before .before .before .before .lines .ensures .0)) (both (is segmentKind (c .before .before .kind .ensures .0 ∙ ap (guideOf bs .kind) l)) (both (is 1 (c .before .required .ensures .0 ∙ ap (guideOf bs .required) l)) (is 1 (c .maximum .ensures .0 ∙ ap (guideOf bs .maximum) l))))
 
 pub has-carrier-spec : {M : Type 1} → statement M
-has-carrier-spec =
-    tie.close
-    (tie.spec
-    carrier-requires
-    lines-requires
-    is-between-requires
-    kind-requires
-    required-requires
-    maximum-requires
-    returns)
+has-carrier-spec = tie.close (tie.spec carrier-requires lines-requires is-between-requires kind-requires required-requires maximum-requires returns)

@@ -1,6 +1,12 @@
--- `structure::has_frames` meets its contract: the tests are joined as the rule joins its parts.
+-- `structure::has_frames` meets its contract: the last line is that of the count that was read.
+use Prim.Native.Nat.{ℕ}
+use mathlib.Core.Path.{_∙_, ap}
 use borrow.Author.Needs.{needs}
-use Rattle.book.specs.GoodBook.{framesRule}
+use Rattle.reading.specs.meaning.Tag.{UNT, tagNumber}
+use Rattle.book.specs.meaning.GoodBook.{frameRule, framesRule}
+use Rattle.book.specs.meaning.Guide.{guideOf}
+use Rattle.book.specs.meaning.Rule.{run}
+use Rattle.book.proofs.Joining.{both}
 use Rattle.book.proofs.structure.has_frames.Statement.{statement}
 use Rattle.book.proofs.structure.has_frames.Tie as tie
 
@@ -15,7 +21,7 @@ is-frame-requires-2 c κs = search needs
 
 returns : tie.Need-returns
 unfolding framesRule
-returns c = cc
+returns c = both (c .before .before .is-frame .ensures) (c .is-frame2 .ensures ∙ ap (λ (l : ℕ). run (frameRule (guideOf (c .before .before .before .before .args .book .now)) l (tagNumber UNT))) (c .before .lines .ensures .0))
 
 pub has-frames-spec : {M : Type 1} → statement M
 has-frames-spec = tie.close (tie.spec is-frame-requires lines-requires is-frame-requires-2 returns)

@@ -1,6 +1,8 @@
--- `structure::is_frame` meets its contract: the tests are joined as the rule joins its parts.
+-- `structure::is_frame` meets its contract: it joins the tests as the rule joins its parts.
 use borrow.Author.Needs.{needs}
-use Rattle.book.specs.GoodBook.{frameRule}
+use Rattle.book.specs.meaning.GoodBook.{frameRule}
+use Rattle.book.specs.meaning.Words.{segmentKind}
+use Rattle.book.proofs.Joining.{both, is}
 use Rattle.book.proofs.structure.is_frame.Statement.{statement}
 use Rattle.book.proofs.structure.is_frame.Tie as tie
 
@@ -24,16 +26,7 @@ selector-element-requires c κs = search needs
 
 returns : tie.Need-returns
 unfolding frameRule
-returns c = cc
+returns c = both (is segmentKind (c .before .before .before .before .before .kind .ensures .0)) (both (is (c .before .before .before .before .before .before .before .args .tag) (c .before .before .before .before .tag .ensures .0)) (both (is 0 (c .before .before .before .depth .ensures .0)) (both (is 1 (c .before .before .required .ensures .0)) (both (is 1 (c .before .maximum .ensures .0)) (is 0 (c .selector-element .ensures .0))))))
 
 pub is-frame-spec : {M : Type 1} → statement M
-is-frame-spec =
-    tie.close
-    (tie.spec
-    kind-requires
-    tag-requires
-    depth-requires
-    required-requires
-    maximum-requires
-    selector-element-requires
-    returns)
+is-frame-spec = tie.close (tie.spec kind-requires tag-requires depth-requires required-requires maximum-requires selector-element-requires returns)

@@ -1,6 +1,10 @@
--- `structure::is_no_other_frame` meets its contract: the tests are joined as the rule joins its parts.
+-- `structure::is_no_other_frame` meets its contract: it joins the tests as the rule joins its parts.
+use mathlib.Core.Path.{refl}
+use lib.Dec.{eqb}
 use borrow.Author.Needs.{needs}
-use Rattle.book.specs.GoodBook.{onlyFramesRule}
+use Rattle.reading.specs.meaning.Tag.{UNH, UNT, tagNumber}
+use Rattle.book.specs.meaning.GoodBook.{onlyFramesRule}
+use Rattle.book.proofs.Joining.{are-same, as-is, both, if-then, is}
 use Rattle.book.proofs.structure.is_no_other_frame.Statement.{statement}
 use Rattle.book.proofs.structure.is_no_other_frame.Tie as tie
 
@@ -18,8 +22,7 @@ implies-requires-2 c κs = search needs
 
 returns : tie.Need-returns
 unfolding onlyFramesRule
-returns c = cc
+returns c = both (if-then (c .before .before .implies .ensures) (is (tagNumber UNH) (c .before .before .before .tag .ensures .0)) (as-is (eqb (c .before .before .before .before .before .args .line) 1))) (if-then (c .implies2 .ensures) (is (tagNumber UNT) (c .before .before .before .tag .ensures .0)) (are-same refl (c .before .lines .ensures .0)))
 
 pub is-no-other-frame-spec : {M : Type 1} → statement M
-is-no-other-frame-spec =
-    tie.close (tie.spec tag-requires implies-requires lines-requires implies-requires-2 returns)
+is-no-other-frame-spec = tie.close (tie.spec tag-requires implies-requires lines-requires implies-requires-2 returns)

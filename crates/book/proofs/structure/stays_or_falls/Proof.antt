@@ -1,6 +1,9 @@
--- `structure::stays_or_falls` meets its contract: the tests are joined as the rule joins its parts.
+-- `structure::stays_or_falls` meets its contract: it joins the tests as the rule joins its parts.
+use Prim.Native.Nat.{_+_}
 use borrow.Author.Needs.{needs}
-use Rattle.book.specs.GoodBook.{fallRule}
+use Rattle.book.specs.meaning.GoodBook.{fallRule}
+use Rattle.book.specs.meaning.Words.{segmentKind}
+use Rattle.book.proofs.Joining.{at-least, both, if-then, in-order, is}
 use Rattle.book.proofs.structure.stays_or_falls.Statement.{statement}
 use Rattle.book.proofs.structure.stays_or_falls.Tie as tie
 
@@ -24,16 +27,7 @@ implies-requires c κs = search needs
 
 returns : tie.Need-returns
 unfolding fallRule
-returns c = cc
+returns c = if-then (c .implies .ensures) (both (is segmentKind (c .before .before .before .before .kind .ensures .0)) (at-least (c .before .before .before .before .before .before .args .line + 1) (c .before .before .before .lines .ensures .0))) (in-order (c .before .before .depth .ensures .0) (c .before .depth2 .ensures .0))
 
 pub stays-or-falls-spec : {M : Type 1} → statement M
-stays-or-falls-spec =
-    tie.close
-    (tie.spec
-    add-next
-    kind-requires
-    lines-requires
-    depth-requires
-    depth-requires-2
-    implies-requires
-    returns)
+stays-or-falls-spec = tie.close (tie.spec add-next kind-requires lines-requires depth-requires depth-requires-2 implies-requires returns)

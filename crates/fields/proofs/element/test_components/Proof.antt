@@ -5,7 +5,7 @@ use mathlib.Core.Path.{sym, _∙_}
 use lib.ListN.{length}
 use borrow.Author.Needs.{needs}
 use borrow.Author.Tests.{not-true, not-false}
-use Rattle.book.specs.Guide.{guideOf}
+use Rattle.book.specs.meaning.Guide.{guideOf}
 use Rattle.fields.proofs.Stepping.{Going, going-begin, going-broken, going-inside, going-on, going-closed}
 use Rattle.fields.proofs.element.test_components.Statement.{statement}
 use Rattle.fields.proofs.element.test_components.Tie as tie
@@ -17,7 +17,10 @@ abbrev μ-loop : tie.MeasureT-loop
 μ-loop service message from book some element first last component₀ start₀ field₀ component start field = length message - start
 
 loop-holds : tie.Need-loop-holds Inv-loop μ-loop
-loop-holds c = going-begin (c .before .before .args .service) (guideOf (c .before .before .args .book .now)) (c .before .before .args .message .now) (c .before .before .args .from) (c .before .before .args .some) (c .before .before .args .element) (c .before .before .args .first) (c .before .before .args .last) (c .before .before .pre .0) (c .before .before .pre .1)
+loop-holds c =
+    let pre = c .before .before .pre in
+    let args = c .before .before .args in
+    going-begin (args .service) (guideOf (args .book .now)) (args .message .now) (args .from) (args .some) (args .element) (args .first) (args .last) (pre .0) (pre .1)
 
 read-component-requires : tie.Need-read-component-requires Inv-loop μ-loop
 read-component-requires c κs = (c .loop .inv .within)
@@ -32,13 +35,21 @@ part-test-component-end : tie.Need-part-test-component-end Inv-loop μ-loop
 part-test-component-end c = (c .read-component .ensures .within)
 
 test-component-requires : tie.Need-test-component-requires Inv-loop μ-loop
-test-component-requires c κs = ((c .before .read-component .ensures .counts), (c .before .before .loop .inv .few), (c .before .before .before .before .before .pre .2))
+test-component-requires c κs =
+    let loop = c .before .before .loop in
+    let pre = c .before .before .before .before .before .pre in
+    ((c .before .read-component .ensures .counts), (loop .inv .few), (pre .2))
 
 enum-known-fault : tie.Need-enum-known-fault Inv-loop μ-loop
 enum-known-fault c = search needs
 
 returns : tie.Need-returns Inv-loop μ-loop
-returns c = going-broken (c .before .before .before .before .before .before .before .before .before .args .service) (guideOf (c .before .before .before .before .before .before .before .before .before .args .book .now)) (c .before .before .before .before .before .before .before .before .before .args .message .now) (c .before .before .before .before .before .before .before .before .before .args .from) (c .before .before .before .before .before .before .before .before .before .args .some) (c .before .before .before .before .before .before .before .before .before .args .element) (c .before .before .before .before .before .before .before .before .before .args .first) (c .before .before .before .before .before .before .before .before .before .args .last) (c .before .before .before .before .before .before .loop .component) (c .before .before .before .before .before .before .loop .start) (c .before .before .before .before .before .before .loop .field) (c .before .before .before .before .before .before .loop .inv) _ (c .before .before .before .before .before .read-component .ensures) _ (c .before .before .before .test-component .ensures) _ (c .before .fault .given .1)
+returns c =
+    let test-component = c .before .before .before .test-component in
+    let loop = c .before .before .before .before .before .before .loop in
+    let read-component = c .before .before .before .before .before .read-component in
+    let args = c .before .before .before .before .before .before .before .before .before .args in
+    going-broken (args .service) (guideOf (args .book .now)) (args .message .now) (args .from) (args .some) (args .element) (args .first) (args .last) (loop .component) (loop .start) (loop .field) (loop .inv) _ (read-component .ensures) _ (test-component .ensures) _ (c .before .fault .given .1)
 
 enum-known-next : tie.Need-enum-known-next Inv-loop μ-loop
 enum-known-next c = search needs
@@ -47,7 +58,13 @@ opens-component-requires : tie.Need-opens-component-requires Inv-loop μ-loop
 opens-component-requires c κs = search needs
 
 returns-2 : tie.Need-returns-2 Inv-loop μ-loop
-returns-2 c = going-closed (c .before .before .before .before .before .before .before .before .before .before .before .args .service) (guideOf (c .before .before .before .before .before .before .before .before .before .before .before .args .book .now)) (c .before .before .before .before .before .before .before .before .before .before .before .args .message .now) (c .before .before .before .before .before .before .before .before .before .before .before .args .from) (c .before .before .before .before .before .before .before .before .before .before .before .args .some) (c .before .before .before .before .before .before .before .before .before .before .before .args .element) (c .before .before .before .before .before .before .before .before .before .before .before .args .first) (c .before .before .before .before .before .before .before .before .before .before .before .args .last) (c .before .before .before .before .before .before .before .before .loop .component) (c .before .before .before .before .before .before .before .before .loop .start) (c .before .before .before .before .before .before .before .before .loop .field) (c .before .before .before .before .before .before .before .before .loop .inv) _ (c .before .before .before .before .before .before .before .read-component .ensures) _ (c .before .before .before .before .before .test-component .ensures) _ (c .before .before .before .next .given .1) (sym (c .before .opens-component .ensures) ∙ not-true _ (c .if1 .taken))
+returns-2 c =
+    let next = c .before .before .before .next in
+    let test-component = c .before .before .before .before .before .test-component in
+    let loop = c .before .before .before .before .before .before .before .before .loop in
+    let read-component = c .before .before .before .before .before .before .before .read-component in
+    let args = c .before .before .before .before .before .before .before .before .before .before .before .args in
+    going-closed (args .service) (guideOf (args .book .now)) (args .message .now) (args .from) (args .some) (args .element) (args .first) (args .last) (loop .component) (loop .start) (loop .field) (loop .inv) _ (read-component .ensures) _ (test-component .ensures) _ (next .given .1) (sym (c .before .opens-component .ensures) ∙ not-true _ (c .if1 .taken))
 
 add-component : tie.Need-add-component Inv-loop μ-loop
 add-component c = let n = going-inside (c .before .before .before .before .before .before .before .before .before .before .before .args .service) (guideOf (c .before .before .before .before .before .before .before .before .before .before .before .args .book .now)) (c .before .before .before .before .before .before .before .before .before .before .before .args .message .now) (c .before .before .before .before .before .before .before .before .before .before .before .args .from) (c .before .before .before .before .before .before .before .before .before .before .before .args .some) (c .before .before .before .before .before .before .before .before .before .before .before .args .element) (c .before .before .before .before .before .before .before .before .before .before .before .args .first) (c .before .before .before .before .before .before .before .before .before .before .before .args .last) (c .before .before .before .before .before .before .before .before .loop .component) (c .before .before .before .before .before .before .before .before .loop .start) (c .before .before .before .before .before .before .before .before .loop .field) (c .before .before .before .before .before .before .before .before .loop .inv) _ (c .before .before .before .before .before .before .before .read-component .ensures) _ (c .before .before .before .before .before .test-component .ensures) _ (c .before .before .before .next .given .1) (sym (c .before .opens-component .ensures) ∙ not-false _ (c .if1 .left)) in let m = (c .before .before .before .before .before .before .before .before .loop .inv .counted) in omega arith
@@ -59,7 +76,13 @@ loop-less : tie.Need-loop-less Inv-loop μ-loop
 loop-less c = let n = going-inside (c .before .before .before .before .before .before .before .before .before .before .before .args .service) (guideOf (c .before .before .before .before .before .before .before .before .before .before .before .args .book .now)) (c .before .before .before .before .before .before .before .before .before .before .before .args .message .now) (c .before .before .before .before .before .before .before .before .before .before .before .args .from) (c .before .before .before .before .before .before .before .before .before .before .before .args .some) (c .before .before .before .before .before .before .before .before .before .before .before .args .element) (c .before .before .before .before .before .before .before .before .before .before .before .args .first) (c .before .before .before .before .before .before .before .before .before .before .before .args .last) (c .before .before .before .before .before .before .before .before .loop .component) (c .before .before .before .before .before .before .before .before .loop .start) (c .before .before .before .before .before .before .before .before .loop .field) (c .before .before .before .before .before .before .before .before .loop .inv) _ (c .before .before .before .before .before .before .before .read-component .ensures) _ (c .before .before .before .before .before .test-component .ensures) _ (c .before .before .before .next .given .1) (sym (c .before .opens-component .ensures) ∙ not-false _ (c .if1 .left)) in omega arith
 
 loop-again : tie.Need-loop-again Inv-loop μ-loop
-loop-again c = going-on (c .before .before .before .before .before .before .before .before .before .before .before .args .service) (guideOf (c .before .before .before .before .before .before .before .before .before .before .before .args .book .now)) (c .before .before .before .before .before .before .before .before .before .before .before .args .message .now) (c .before .before .before .before .before .before .before .before .before .before .before .args .from) (c .before .before .before .before .before .before .before .before .before .before .before .args .some) (c .before .before .before .before .before .before .before .before .before .before .before .args .element) (c .before .before .before .before .before .before .before .before .before .before .before .args .first) (c .before .before .before .before .before .before .before .before .before .before .before .args .last) (c .before .before .before .before .before .before .before .before .loop .component) (c .before .before .before .before .before .before .before .before .loop .start) (c .before .before .before .before .before .before .before .before .loop .field) (c .before .before .before .before .before .before .before .before .loop .inv) _ (c .before .before .before .before .before .before .before .read-component .ensures) _ (c .before .before .before .before .before .test-component .ensures) _ (c .before .before .before .next .given .1) (sym (c .before .opens-component .ensures) ∙ not-false _ (c .if1 .left))
+loop-again c =
+    let next = c .before .before .before .next in
+    let test-component = c .before .before .before .before .before .test-component in
+    let loop = c .before .before .before .before .before .before .before .before .loop in
+    let read-component = c .before .before .before .before .before .before .before .read-component in
+    let args = c .before .before .before .before .before .before .before .before .before .before .before .args in
+    going-on (args .service) (guideOf (args .book .now)) (args .message .now) (args .from) (args .some) (args .element) (args .first) (args .last) (loop .component) (loop .start) (loop .field) (loop .inv) _ (read-component .ensures) _ (test-component .ensures) _ (next .given .1) (sym (c .before .opens-component .ensures) ∙ not-false _ (c .if1 .left))
 
 pub test-components-spec : {M : Type 1} → statement M
 test-components-spec =

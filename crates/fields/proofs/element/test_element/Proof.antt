@@ -1,6 +1,6 @@
 -- `element::test_element` meets its contract: its components, then the fields beyond them.
 use borrow.Author.Needs.{needs}
-use Rattle.book.specs.Guide.{guideOf}
+use Rattle.book.specs.meaning.Guide.{guideOf}
 use Rattle.fields.proofs.Stepping.{element-few, element-broken, element-missing, element-kept}
 use Rattle.fields.proofs.element.test_element.Statement.{statement}
 use Rattle.fields.proofs.element.test_element.Tie as tie
@@ -18,7 +18,11 @@ enum-known-end : tie.Need-enum-known-end
 enum-known-end c = search needs
 
 test-absent-requires : tie.Need-test-absent-requires
-test-absent-requires c κs = element-few (c .before .before .before .before .before .before .before .args .service) (guideOf (c .before .before .before .before .before .before .before .args .book .now)) (c .before .before .before .before .before .before .before .args .message .now) (c .before .before .before .before .before .before .before .args .from) (c .before .before .before .before .before .before .before .args .element) (c .before .before .before .before .before .before .before .args .first) (c .before .before .before .before .before .before .before .args .last) _ (c .before .before .before .before .has-bytes .ensures) _ (c .before .before .before .test-components .ensures) _ _ (c .before .end .given .1)
+test-absent-requires c κs =
+    let test-components = c .before .before .before .test-components in
+    let has-bytes = c .before .before .before .before .has-bytes in
+    let args = c .before .before .before .before .before .before .before .args in
+    element-few (args .service) (guideOf (args .book .now)) (args .message .now) (args .from) (args .element) (args .first) (args .last) _ (has-bytes .ensures) _ (test-components .ensures) _ _ (c .before .end .given .1)
 
 enum-known-fault-2 : tie.Need-enum-known-fault-2
 enum-known-fault-2 c = search needs
@@ -27,13 +31,29 @@ enum-known-field : tie.Need-enum-known-field
 enum-known-field c = search needs
 
 returns : tie.Need-returns
-returns c = element-broken (c .before .before .before .before .before .before .before .args .service) (guideOf (c .before .before .before .before .before .before .before .args .book .now)) (c .before .before .before .before .before .before .before .args .message .now) (c .before .before .before .before .before .before .before .args .from) (c .before .before .before .before .before .before .before .args .element) (c .before .before .before .before .before .before .before .args .first) (c .before .before .before .before .before .before .before .args .last) _ (c .before .before .before .before .has-bytes .ensures) _ (c .before .before .before .test-components .ensures) _ (c .before .fault .given .1)
+returns c =
+    let test-components = c .before .before .before .test-components in
+    let has-bytes = c .before .before .before .before .has-bytes in
+    let args = c .before .before .before .before .before .before .before .args in
+    element-broken (args .service) (guideOf (args .book .now)) (args .message .now) (args .from) (args .element) (args .first) (args .last) _ (has-bytes .ensures) _ (test-components .ensures) _ (c .before .fault .given .1)
 
 returns-2 : tie.Need-returns-2
-returns-2 c = element-missing (c .before .before .before .before .before .before .before .before .before .before .before .args .service) (guideOf (c .before .before .before .before .before .before .before .before .before .before .before .args .book .now)) (c .before .before .before .before .before .before .before .before .before .before .before .args .message .now) (c .before .before .before .before .before .before .before .before .before .before .before .args .from) (c .before .before .before .before .before .before .before .before .before .before .before .args .element) (c .before .before .before .before .before .before .before .before .before .before .before .args .first) (c .before .before .before .before .before .before .before .before .before .before .before .args .last) _ (c .before .before .before .before .before .before .before .before .has-bytes .ensures) _ (c .before .before .before .before .before .before .before .test-components .ensures) _ _ (c .before .before .before .before .before .end .given .1) _ (c .before .before .before .test-absent .ensures) _ (c .before .fault2 .given .1)
+returns-2 c =
+    let test-absent = c .before .before .before .test-absent in
+    let end = c .before .before .before .before .before .end in
+    let test-components = c .before .before .before .before .before .before .before .test-components in
+    let has-bytes = c .before .before .before .before .before .before .before .before .has-bytes in
+    let args = c .before .before .before .before .before .before .before .before .before .before .before .args in
+    element-missing (args .service) (guideOf (args .book .now)) (args .message .now) (args .from) (args .element) (args .first) (args .last) _ (has-bytes .ensures) _ (test-components .ensures) _ _ (end .given .1) _ (test-absent .ensures) _ (c .before .fault2 .given .1)
 
 returns-3 : tie.Need-returns-3
-returns-3 c = element-kept (c .before .before .before .before .before .before .before .before .before .before .before .args .service) (guideOf (c .before .before .before .before .before .before .before .before .before .before .before .args .book .now)) (c .before .before .before .before .before .before .before .before .before .before .before .args .message .now) (c .before .before .before .before .before .before .before .before .before .before .before .args .from) (c .before .before .before .before .before .before .before .before .before .before .before .args .element) (c .before .before .before .before .before .before .before .before .before .before .before .args .first) (c .before .before .before .before .before .before .before .before .before .before .before .args .last) _ (c .before .before .before .before .before .before .before .before .has-bytes .ensures) _ (c .before .before .before .before .before .before .before .test-components .ensures) _ _ (c .before .before .before .before .before .end .given .1) _ (c .before .before .before .test-absent .ensures) _ (c .before .field .given .1)
+returns-3 c =
+    let test-absent = c .before .before .before .test-absent in
+    let end = c .before .before .before .before .before .end in
+    let test-components = c .before .before .before .before .before .before .before .test-components in
+    let has-bytes = c .before .before .before .before .before .before .before .before .has-bytes in
+    let args = c .before .before .before .before .before .before .before .before .before .before .before .args in
+    element-kept (args .service) (guideOf (args .book .now)) (args .message .now) (args .from) (args .element) (args .first) (args .last) _ (has-bytes .ensures) _ (test-components .ensures) _ _ (end .given .1) _ (test-absent .ensures) _ (c .before .field .given .1)
 
 pub test-element-spec : {M : Type 1} → statement M
 test-element-spec =

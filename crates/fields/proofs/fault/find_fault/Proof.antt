@@ -5,7 +5,7 @@ use mathlib.Core.Path.{refl, sym, _∙_}
 use lib.ListN.{length}
 use borrow.Author.Needs.{needs}
 use borrow.Author.Tests.{not-true, not-false}
-use Rattle.book.specs.Guide.{guideOf}
+use Rattle.book.specs.meaning.Guide.{guideOf}
 use Rattle.fields.proofs.Stepping.{Passing, passing-begin, passing-inside, passing-broken, passing-later, passing-on, passing-done}
 use Rattle.fields.proofs.fault.find_fault.Statement.{statement}
 use Rattle.fields.proofs.fault.find_fault.Tie as tie
@@ -32,7 +32,11 @@ skip-to-element-requires : tie.Need-skip-to-element-requires Inv-loop μ-loop
 skip-to-element-requires c κs = (c .behind-tag .ensures .1)
 
 loop-holds : tie.Need-loop-holds Inv-loop μ-loop
-loop-holds c = (passing-begin (c .before .before .before .before .before .before .args .service) (guideOf (c .before .before .before .before .before .before .args .book .now)) (c .before .before .before .before .before .before .args .message .now) (c .before .before .before .before .before .before .args .at) (c .before .before .before .before .before .before .args .line) _ _ _ _ _ (c .before .before .before .first-field .ensures .0) (c .before .before .field-count .ensures .0) refl (c .before .behind-tag .ensures .0) (c .skip-to-element .ensures), omega (arith, (c .before .before .before .first-field .ensures .1), (c .before .before .field-count .ensures .1)))
+loop-holds c =
+    let field-count = c .before .before .field-count in
+    let first-field = c .before .before .before .first-field in
+    let args = c .before .before .before .before .before .before .args in
+    (passing-begin (args .service) (guideOf (args .book .now)) (args .message .now) (args .at) (args .line) _ _ _ _ _ (first-field .ensures .0) (field-count .ensures .0) refl (c .before .behind-tag .ensures .0) (c .skip-to-element .ensures), omega (arith, (first-field .ensures .1), (field-count .ensures .1)))
 
 opens-element-requires : tie.Need-opens-element-requires Inv-loop μ-loop
 opens-element-requires c κs = search needs
@@ -41,7 +45,11 @@ test-rest-requires : tie.Need-test-rest-requires Inv-loop μ-loop
 test-rest-requires c κs = (c .before .before .loop .inv .0 .few)
 
 returns : tie.Need-returns Inv-loop μ-loop
-returns c = passing-done (c .before .before .before .before .before .before .before .before .before .before .args .service) (guideOf (c .before .before .before .before .before .before .before .before .before .before .args .book .now)) (c .before .before .before .before .before .before .before .before .before .before .args .message .now) (c .before .before .before .before .before .before .before .before .before .before .args .at) (c .before .before .before .before .before .before .before .before .before .before .args .line) _ (c .before .before .before .loop .element) (c .before .before .before .loop .end) (c .before .before .before .loop .field) (c .before .before .before .loop .inv .0) (sym (c .before .before .opens-element .ensures) ∙ not-true _ (c .before .if1 .taken)) _ (c .test-rest .ensures)
+returns c =
+    let loop = c .before .before .before .loop in
+    let opens-element = c .before .before .opens-element in
+    let args = c .before .before .before .before .before .before .before .before .before .before .args in
+    passing-done (args .service) (guideOf (args .book .now)) (args .message .now) (args .at) (args .line) _ (loop .element) (loop .end) (loop .field) (loop .inv .0) (sym (opens-element .ensures) ∙ not-true _ (c .before .if1 .taken)) _ (c .test-rest .ensures)
 
 add-element : tie.Need-add-element Inv-loop μ-loop
 add-element c = let n = passing-inside (c .before .before .before .before .before .before .before .before .before .args .service) (guideOf (c .before .before .before .before .before .before .before .before .before .args .book .now)) (c .before .before .before .before .before .before .before .before .before .args .message .now) (c .before .before .before .before .before .before .before .before .before .args .at) (c .before .before .before .before .before .before .before .before .before .args .line) _ (c .before .before .loop .element) (c .before .before .loop .end) (c .before .before .loop .field) (c .before .before .loop .inv .0) (sym (c .before .opens-element .ensures) ∙ not-false _ (c .if1 .left)) in let m = (c .before .before .loop .inv .0 .counted) in omega arith
@@ -56,7 +64,13 @@ enum-known-component : tie.Need-enum-known-component Inv-loop μ-loop
 enum-known-component c = search needs
 
 returns-2 : tie.Need-returns-2 Inv-loop μ-loop
-returns-2 c = passing-broken (c .before .before .before .before .before .before .before .before .before .before .before .before .before .args .service) (guideOf (c .before .before .before .before .before .before .before .before .before .before .before .before .before .args .book .now)) (c .before .before .before .before .before .before .before .before .before .before .before .before .before .args .message .now) (c .before .before .before .before .before .before .before .before .before .before .before .before .before .args .at) (c .before .before .before .before .before .before .before .before .before .before .before .before .before .args .line) _ (c .before .before .before .before .before .before .loop .element) (c .before .before .before .before .before .before .loop .end) (c .before .before .before .before .before .before .loop .field) (c .before .before .before .before .before .before .loop .inv .0) (sym (c .before .before .before .before .before .opens-element .ensures) ∙ not-false _ (c .before .before .before .before .if1 .left)) _ (c .before .before .before .test-element .ensures) _ (c .before .component .given .1)
+returns-2 c =
+    let if1 = c .before .before .before .before .if1 in
+    let test-element = c .before .before .before .test-element in
+    let loop = c .before .before .before .before .before .before .loop in
+    let opens-element = c .before .before .before .before .before .opens-element in
+    let args = c .before .before .before .before .before .before .before .before .before .before .before .before .before .args in
+    passing-broken (args .service) (guideOf (args .book .now)) (args .message .now) (args .at) (args .line) _ (loop .element) (loop .end) (loop .field) (loop .inv .0) (sym (opens-element .ensures) ∙ not-false _ (if1 .left)) _ (test-element .ensures) _ (c .before .component .given .1)
 
 enum-known-closed : tie.Need-enum-known-closed Inv-loop μ-loop
 enum-known-closed c = search needs
@@ -65,7 +79,13 @@ loop-less : tie.Need-loop-less Inv-loop μ-loop
 loop-less c = let n = passing-later (c .before .before .before .before .before .before .before .before .before .before .before .before .before .args .service) (guideOf (c .before .before .before .before .before .before .before .before .before .before .before .before .before .args .book .now)) (c .before .before .before .before .before .before .before .before .before .before .before .before .before .args .message .now) (c .before .before .before .before .before .before .before .before .before .before .before .before .before .args .at) (c .before .before .before .before .before .before .before .before .before .before .before .before .before .args .line) _ (c .before .before .before .before .before .before .loop .element) (c .before .before .before .before .before .before .loop .end) (c .before .before .before .before .before .before .loop .field) (c .before .before .before .before .before .before .loop .inv .0) (sym (c .before .before .before .before .before .opens-element .ensures) ∙ not-false _ (c .before .before .before .before .if1 .left)) _ (c .before .before .before .test-element .ensures) _ _ (c .before .closed .given .1) in omega arith
 
 loop-again : tie.Need-loop-again Inv-loop μ-loop
-loop-again c = (passing-on (c .before .before .before .before .before .before .before .before .before .before .before .before .before .args .service) (guideOf (c .before .before .before .before .before .before .before .before .before .before .before .before .before .args .book .now)) (c .before .before .before .before .before .before .before .before .before .before .before .before .before .args .message .now) (c .before .before .before .before .before .before .before .before .before .before .before .before .before .args .at) (c .before .before .before .before .before .before .before .before .before .before .before .before .before .args .line) _ (c .before .before .before .before .before .before .loop .element) (c .before .before .before .before .before .before .loop .end) (c .before .before .before .before .before .before .loop .field) (c .before .before .before .before .before .before .loop .inv .0) (sym (c .before .before .before .before .before .opens-element .ensures) ∙ not-false _ (c .before .before .before .before .if1 .left)) _ (c .before .before .before .test-element .ensures) _ _ (c .before .closed .given .1), (c .before .before .before .before .before .before .loop .inv .1))
+loop-again c =
+    let if1 = c .before .before .before .before .if1 in
+    let test-element = c .before .before .before .test-element in
+    let loop = c .before .before .before .before .before .before .loop in
+    let opens-element = c .before .before .before .before .before .opens-element in
+    let args = c .before .before .before .before .before .before .before .before .before .before .before .before .before .args in
+    (passing-on (args .service) (guideOf (args .book .now)) (args .message .now) (args .at) (args .line) _ (loop .element) (loop .end) (loop .field) (loop .inv .0) (sym (opens-element .ensures) ∙ not-false _ (if1 .left)) _ (test-element .ensures) _ _ (c .before .closed .given .1), (loop .inv .1))
 
 pub find-fault-spec : {M : Type 1} → statement M
 find-fault-spec =

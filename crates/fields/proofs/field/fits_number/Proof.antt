@@ -2,7 +2,7 @@
 use mathlib.Core.Path.{sym, _∙_}
 use borrow.Author.Needs.{needs}
 use borrow.Author.Tests.{not-true, not-false}
-use Rattle.book.specs.Guide.{guideOf}
+use Rattle.book.specs.meaning.Guide.{guideOf}
 use Rattle.fields.proofs.Fitting.{no-number, number-long, number-short}
 use Rattle.fields.proofs.field.fits_number.Statement.{statement}
 use Rattle.fields.proofs.field.fits_number.Tie as tie
@@ -11,19 +11,30 @@ is-number-requires : tie.Need-is-number-requires
 is-number-requires c κs = search needs
 
 returns : tie.Need-returns
-returns c = no-number (guideOf (c .before .before .before .before .args .book .now)) (c .before .before .before .before .args .field) (c .before .before .before .before .args .service) (c .before .before .before .before .args .part .now) (sym (c .before .is-number .ensures) ∙ not-true _ (c .if1 .taken))
+returns c =
+    let args = c .before .before .before .before .args in
+    no-number (guideOf (args .book .now)) (args .field) (args .service) (args .part .now) (sym (c .before .is-number .ensures) ∙ not-true _ (c .if1 .taken))
 
 is-short-requires : tie.Need-is-short-requires
 is-short-requires c κs = search needs
 
 returns-2 : tie.Need-returns-2
-returns-2 c = number-long (guideOf (c .before .before .before .before .before .before .args .book .now)) (c .before .before .before .before .before .before .args .field) (c .before .before .before .before .before .before .args .service) (c .before .before .before .before .before .before .args .part .now) (sym (c .before .before .before .is-number .ensures) ∙ not-false _ (c .before .before .if1 .left)) (sym (c .before .is-short .ensures) ∙ not-true _ (c .if2 .taken))
+returns-2 c =
+    let if1 = c .before .before .if1 in
+    let is-number = c .before .before .before .is-number in
+    let args = c .before .before .before .before .before .before .args in
+    number-long (guideOf (args .book .now)) (args .field) (args .service) (args .part .now) (sym (is-number .ensures) ∙ not-false _ (if1 .left)) (sym (c .before .is-short .ensures) ∙ not-true _ (c .if2 .taken))
 
 has-code-requires : tie.Need-has-code-requires
 has-code-requires c κs = search needs
 
 returns-3 : tie.Need-returns-3
-returns-3 c = number-short (guideOf (c .before .before .before .before .before .before .before .args .book .now)) (c .before .before .before .before .before .before .before .args .field) (c .before .before .before .before .before .before .before .args .service) (c .before .before .before .before .before .before .before .args .part .now) _ (sym (c .before .before .before .before .is-number .ensures) ∙ not-false _ (c .before .before .before .if1 .left)) (sym (c .before .before .is-short .ensures) ∙ not-false _ (c .before .if2 .left)) (c .has-code .ensures)
+returns-3 c =
+    let is-short = c .before .before .is-short in
+    let if1 = c .before .before .before .if1 in
+    let is-number = c .before .before .before .before .is-number in
+    let args = c .before .before .before .before .before .before .before .args in
+    number-short (guideOf (args .book .now)) (args .field) (args .service) (args .part .now) _ (sym (is-number .ensures) ∙ not-false _ (if1 .left)) (sym (is-short .ensures) ∙ not-false _ (c .before .if2 .left)) (c .has-code .ensures)
 
 pub fits-number-spec : {M : Type 1} → statement M
 fits-number-spec =

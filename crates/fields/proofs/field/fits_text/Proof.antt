@@ -1,6 +1,6 @@
 -- `field::fits_text` meets its contract: the bytes that are no releases are as many as the value has.
 use borrow.Author.Needs.{needs}
-use Rattle.book.specs.Guide.{guideOf}
+use Rattle.book.specs.meaning.Guide.{guideOf}
 use Rattle.fields.proofs.Fitting.{text-long, text-short}
 use Rattle.fields.proofs.field.fits_text.Statement.{statement}
 use Rattle.fields.proofs.field.fits_text.Tie as tie
@@ -15,13 +15,20 @@ cast-if1 : tie.Need-cast-if1
 cast-if1 c = search needs
 
 returns : tie.Need-returns
-returns c = text-long (guideOf (c .before .before .before .before .args .book .now)) (c .before .before .before .before .args .field) (c .before .before .before .before .args .service) (c .before .before .before .before .args .part .now) _ (c .before .longest .ensures .0) (c .before .before .before .before .args .releases) (c .before .before .before .before .pre) (c .if1 .taken)
+returns c =
+    let pre = c .before .before .before .before .pre in
+    let args = c .before .before .before .before .args in
+    text-long (guideOf (args .book .now)) (args .field) (args .service) (args .part .now) _ (c .before .longest .ensures .0) (args .releases) (pre) (c .if1 .taken)
 
 has-code-requires : tie.Need-has-code-requires
 has-code-requires c κs = search needs
 
 returns-2 : tie.Need-returns-2
-returns-2 c = text-short (guideOf (c .before .before .before .before .before .args .book .now)) (c .before .before .before .before .before .args .field) (c .before .before .before .before .before .args .service) (c .before .before .before .before .before .args .part .now) _ (c .before .before .longest .ensures .0) (c .before .before .before .before .before .args .releases) _ (c .before .before .before .before .before .pre) (c .before .if1 .left) (c .has-code .ensures)
+returns-2 c =
+    let longest = c .before .before .longest in
+    let pre = c .before .before .before .before .before .pre in
+    let args = c .before .before .before .before .before .args in
+    text-short (guideOf (args .book .now)) (args .field) (args .service) (args .part .now) _ (longest .ensures .0) (args .releases) _ (pre) (c .before .if1 .left) (c .has-code .ensures)
 
 pub fits-text-spec : {M : Type 1} → statement M
 fits-text-spec =

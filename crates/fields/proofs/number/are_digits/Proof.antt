@@ -16,7 +16,10 @@ skip-digits-requires : tie.Need-skip-digits-requires
 skip-digits-requires c κs = search needs
 
 returns-2 : tie.Need-returns-2
-returns-2 c = digits-to (c .before .before .before .before .args .part .now) (c .before .before .before .before .args .from) _ (sym (c .before .before .starts-digit .ensures) ∙ not-false _ (c .before .if1 .left)) (c .skip-digits .ensures .0) (c .skip-digits .ensures .1)
+returns-2 c =
+    let starts-digit = c .before .before .starts-digit in
+    let args = c .before .before .before .before .args in
+    digits-to (args .part .now) (args .from) _ (sym (starts-digit .ensures) ∙ not-false _ (c .before .if1 .left)) (c .skip-digits .ensures .0) (c .skip-digits .ensures .1)
 
 pub are-digits-spec : {M : Type 1} → statement M
 are-digits-spec = tie.close (tie.spec starts-digit-requires returns skip-digits-requires returns-2)

@@ -32,16 +32,26 @@ loop-less : tie.Need-loop-less Inv-loop μ-loop
 loop-less c = omega (arith, (c .before .before .before .loop-test .taken))
 
 loop-again : tie.Need-loop-again Inv-loop μ-loop
-loop-again c = figure-counts (c .before .before .before .before .before .before .args .service) (c .before .before .before .before .before .before .args .part .now) (c .before .before .before .before .loop .count) (c .before .before .before .before .loop .position) (c .before .before .before .loop-test .taken) (c .before .before .before .before .loop .inv) _ (c .before .is-figure .ensures) (c .if1 .taken)
+loop-again c =
+    let loop-test = c .before .before .before .loop-test in
+    let loop = c .before .before .before .before .loop in
+    let args = c .before .before .before .before .before .before .args in
+    figure-counts (args .service) (args .part .now) (loop .count) (loop .position) (loop-test .taken) (loop .inv) _ (c .before .is-figure .ensures) (c .if1 .taken)
 
 loop-less-2 : tie.Need-loop-less-2 Inv-loop μ-loop
 loop-less-2 c = omega (arith, (c .before .before .before .loop-test .taken))
 
 loop-again-2 : tie.Need-loop-again-2 Inv-loop μ-loop
-loop-again-2 c = figure-passes (c .before .before .before .before .before .before .args .service) (c .before .before .before .before .before .before .args .part .now) (c .before .before .before .before .loop .count) (c .before .before .before .before .loop .position) (c .before .before .before .loop-test .taken) (c .before .before .before .before .loop .inv) _ (c .before .is-figure .ensures) (c .if1 .left)
+loop-again-2 c =
+    let loop-test = c .before .before .before .loop-test in
+    let loop = c .before .before .before .before .loop in
+    let args = c .before .before .before .before .before .before .args in
+    figure-passes (args .service) (args .part .now) (loop .count) (loop .position) (loop-test .taken) (loop .inv) _ (c .before .is-figure .ensures) (c .if1 .left)
 
 returns : tie.Need-returns Inv-loop μ-loop
-returns c = figuring-done (c .before .before .before .args .service) (c .before .before .before .args .part .now) (c .before .loop .count) (c .before .loop .position) (c .loop-test .left) (c .before .loop .inv)
+returns c =
+    let args = c .before .before .before .args in
+    figuring-done (args .service) (args .part .now) (c .before .loop .count) (c .before .loop .position) (c .loop-test .left) (c .before .loop .inv)
 
 pub count-figures-spec : {M : Type 1} → statement M
 count-figures-spec =

@@ -11,7 +11,10 @@ shared-slice-read-if2 : tie.Need-shared-slice-read-if2
 shared-slice-read-if2 c = search needs
 
 returns-2 : tie.Need-returns-2
-returns-2 c = number-no-mark (c .before .before .before .before .before .args .service) (c .before .before .before .before .before .args .part .now) (c .before .before .before .before .before .args .from) (c .before .before .before .if1 .left) (c .if2 .taken)
+returns-2 c =
+    let if1 = c .before .before .before .if1 in
+    let args = c .before .before .before .before .before .args in
+    number-no-mark (args .service) (args .part .now) (args .from) (if1 .left) (c .if2 .taken)
 
 add-are-digits : tie.Need-add-are-digits
 add-are-digits c = search needs
@@ -20,7 +23,10 @@ are-digits-requires : tie.Need-are-digits-requires
 are-digits-requires c κs = search needs
 
 returns-3 : tie.Need-returns-3
-returns-3 c = number-mark (c .before .before .before .before .before .before .args .service) (c .before .before .before .before .before .before .args .part .now) (c .before .before .before .before .before .before .args .from) _ (c .before .before .before .before .if1 .left) (c .before .if2 .left) (c .are-digits .ensures)
+returns-3 c =
+    let if1 = c .before .before .before .before .if1 in
+    let args = c .before .before .before .before .before .before .args in
+    number-mark (args .service) (args .part .now) (args .from) _ (if1 .left) (c .before .if2 .left) (c .are-digits .ensures)
 
 pub ends-number-spec : {M : Type 1} → statement M
 ends-number-spec =

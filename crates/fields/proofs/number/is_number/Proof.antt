@@ -13,7 +13,10 @@ starts-digit-requires : tie.Need-starts-digit-requires
 starts-digit-requires c κs = search needs
 
 returns : tie.Need-returns
-returns c = number-not (c .before .before .before .before .args .service) (c .before .before .before .before .args .part .now) (c .before .before .skip-sign .result) (c .before .before .skip-sign .ensures .0) (sym (c .before .starts-digit .ensures) ∙ not-true _ (c .if1 .taken))
+returns c =
+    let skip-sign = c .before .before .skip-sign in
+    let args = c .before .before .before .before .args in
+    number-not (args .service) (args .part .now) (skip-sign .result) (skip-sign .ensures .0) (sym (c .before .starts-digit .ensures) ∙ not-true _ (c .if1 .taken))
 
 skip-digits-requires : tie.Need-skip-digits-requires
 skip-digits-requires c κs = search needs
@@ -22,7 +25,12 @@ ends-number-requires : tie.Need-ends-number-requires
 ends-number-requires c κs = search needs
 
 returns-2 : tie.Need-returns-2
-returns-2 c = number-by (c .before .before .before .before .before .before .args .service) (c .before .before .before .before .before .before .args .part .now) (c .before .before .before .before .skip-sign .result) (c .before .skip-digits .result) _ (c .before .before .before .before .skip-sign .ensures .0) (sym (c .before .before .before .starts-digit .ensures) ∙ not-false _ (c .before .before .if1 .left)) (c .before .skip-digits .ensures .0) (c .ends-number .ensures)
+returns-2 c =
+    let if1 = c .before .before .if1 in
+    let starts-digit = c .before .before .before .starts-digit in
+    let skip-sign = c .before .before .before .before .skip-sign in
+    let args = c .before .before .before .before .before .before .args in
+    number-by (args .service) (args .part .now) (skip-sign .result) (c .before .skip-digits .result) _ (skip-sign .ensures .0) (sym (starts-digit .ensures) ∙ not-false _ (if1 .left)) (c .before .skip-digits .ensures .0) (c .ends-number .ensures)
 
 pub is-number-spec : {M : Type 1} → statement M
 is-number-spec =

@@ -11,7 +11,10 @@ is-digit-requires : tie.Need-is-digit-requires
 is-digit-requires c κs = search needs
 
 returns : tie.Need-returns
-returns c = starts-here (c .before .before .before .before .args .part .now) (c .before .before .before .before .args .from) _ (c .before .before .if1 .taken) (c .is-digit .ensures)
+returns c =
+    let if1 = c .before .before .if1 in
+    let args = c .before .before .before .before .args in
+    starts-here (args .part .now) (args .from) _ (if1 .taken) (c .is-digit .ensures)
 
 returns-2 : tie.Need-returns-2
 returns-2 c = starts-out (c .before .before .args .part .now) (c .before .before .args .from) (c .if1 .left)

@@ -6,7 +6,7 @@ use mathlib.Core.Bool.{false, not}
 use lib.ListN.{length, drop}
 use borrow.Author.Needs.{needs}
 use borrow.Author.Tests.{not-true, not-false}
-use Rattle.fields.specs.Parts.{cut, componentsIn, anyBytes}
+use Rattle.fields.specs.method.Parts.{cut, componentsIn, anyBytes}
 use Rattle.fields.proofs.Cutting.{some-on, some-here, some-out}
 use Rattle.fields.proofs.parts.has_bytes.Statement.{statement}
 use Rattle.fields.proofs.parts.has_bytes.Tie as tie
@@ -36,16 +36,29 @@ is-mark-requires : tie.Need-is-mark-requires Inv-loop μ-loop
 is-mark-requires c κs = search needs
 
 returns : tie.Need-returns Inv-loop μ-loop
-returns c = ap not (c .is-mark .ensures) ∙ some-here (c .before .before .before .before .before .before .before .before .args .service) (c .before .before .before .before .before .before .before .before .args .message .now) (c .before .before .before .before .before .before .loop .position) _ (c .before .before .before .before .before .loop-test .taken) (c .before .before .before .kind-of .ensures) (sym (c .before .before .is-component-mark .ensures) ∙ not-true _ (c .before .if1 .taken)) ∙ (c .before .before .before .before .before .before .loop .inv)
+returns c =
+    let kind-of = c .before .before .before .kind-of in
+    let is-component-mark = c .before .before .is-component-mark in
+    let loop-test = c .before .before .before .before .before .loop-test in
+    let loop = c .before .before .before .before .before .before .loop in
+    let args = c .before .before .before .before .before .before .before .before .args in
+    ap not (c .is-mark .ensures) ∙ some-here (args .service) (args .message .now) (loop .position) _ (loop-test .taken) (kind-of .ensures) (sym (is-component-mark .ensures) ∙ not-true _ (c .before .if1 .taken)) ∙ (loop .inv)
 
 loop-less : tie.Need-loop-less Inv-loop μ-loop
 loop-less c = omega (arith, (c .before .before .before .before .loop-test .taken))
 
 loop-again : tie.Need-loop-again Inv-loop μ-loop
-loop-again c = some-on (c .before .before .before .before .before .before .before .args .service) (c .before .before .before .before .before .before .before .args .message .now) (c .before .before .before .before .before .loop .position) _ (c .before .before .before .before .loop-test .taken) (c .before .before .kind-of .ensures) (sym (c .before .is-component-mark .ensures) ∙ not-false _ (c .if1 .left)) ∙ (c .before .before .before .before .before .loop .inv)
+loop-again c =
+    let kind-of = c .before .before .kind-of in
+    let loop-test = c .before .before .before .before .loop-test in
+    let loop = c .before .before .before .before .before .loop in
+    let args = c .before .before .before .before .before .before .before .args in
+    some-on (args .service) (args .message .now) (loop .position) _ (loop-test .taken) (kind-of .ensures) (sym (c .before .is-component-mark .ensures) ∙ not-false _ (c .if1 .left)) ∙ (loop .inv)
 
 returns-2 : tie.Need-returns-2 Inv-loop μ-loop
-returns-2 c = some-out (c .before .before .before .args .service) (c .before .before .before .args .message .now) (c .before .loop .position) (c .loop-test .left) ∙ (c .before .loop .inv)
+returns-2 c =
+    let args = c .before .before .before .args in
+    some-out (args .service) (args .message .now) (c .before .loop .position) (c .loop-test .left) ∙ (c .before .loop .inv)
 
 pub has-bytes-spec : {M : Type 1} → statement M
 has-bytes-spec =

@@ -14,7 +14,10 @@ is-element-mark-requires : tie.Need-is-element-mark-requires
 is-element-mark-requires c κs = search needs
 
 returns : tie.Need-returns
-returns c = element-here (c .before .before .before .before .before .args .service) (c .before .before .before .before .before .args .message .now) (c .before .before .before .before .before .args .at) _ _ (c .before .before .before .if1 .taken) (c .before .kind-of .ensures) (c .is-element-mark .ensures)
+returns c =
+    let if1 = c .before .before .before .if1 in
+    let args = c .before .before .before .before .before .args in
+    element-here (args .service) (args .message .now) (args .at) _ _ (if1 .taken) (c .before .kind-of .ensures) (c .is-element-mark .ensures)
 
 returns-2 : tie.Need-returns-2
 returns-2 c = element-out (c .before .before .args .service) (c .before .before .args .message .now) (c .before .before .args .at) (c .if1 .left)

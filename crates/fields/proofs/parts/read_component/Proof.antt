@@ -34,7 +34,12 @@ is-mark-requires : tie.Need-is-mark-requires Inv-loop μ-loop
 is-mark-requires c κs = search needs
 
 returns : tie.Need-returns Inv-loop μ-loop
-returns c = free-end (c .before .before .before .before .before .before .before .before .before .args .service) (c .before .before .before .before .before .before .before .before .before .args .message .now) (c .before .before .before .before .before .before .before .before .before .args .from) (c .before .before .before .before .before .before .before .loop .releases) (c .before .before .before .before .before .before .before .loop .position) (c .before .before .before .before .before .before .loop-test .taken) _ (c .before .before .kind-of .ensures) (c .before .before .before .before .before .before .before .loop .inv) (sym (c .before .is-mark .ensures) ∙ (c .if2 .taken))
+returns c =
+    let kind-of = c .before .before .kind-of in
+    let loop-test = c .before .before .before .before .before .before .loop-test in
+    let loop = c .before .before .before .before .before .before .before .loop in
+    let args = c .before .before .before .before .before .before .before .before .before .args in
+    free-end (args .service) (args .message .now) (args .from) (loop .releases) (loop .position) (loop-test .taken) _ (kind-of .ensures) (loop .inv) (sym (c .before .is-mark .ensures) ∙ (c .if2 .taken))
 
 is-release-requires : tie.Need-is-release-requires Inv-loop μ-loop
 is-release-requires c κs = search needs
@@ -46,31 +51,62 @@ add-position-2 : tie.Need-add-position-2 Inv-loop μ-loop
 add-position-2 c = omega (arith, (c .if4 .taken))
 
 loop-less : tie.Need-loop-less Inv-loop μ-loop
-loop-less c = omega (arith, (c .before .before .before .before .before .before .before .before .before .loop-test .taken), (c .if4 .taken))
+loop-less c =
+    let loop-test = c .before .before .before .before .before .before .before .before .before .loop-test in
+    omega (arith, (loop-test .taken), (c .if4 .taken))
 
 loop-again : tie.Need-loop-again Inv-loop μ-loop
-loop-again c = free-release (c .before .before .before .before .before .before .before .before .before .before .before .before .args .service) (c .before .before .before .before .before .before .before .before .before .before .before .before .args .message .now) (c .before .before .before .before .before .before .before .before .before .before .before .before .args .from) (c .before .before .before .before .before .before .before .before .before .before .loop .releases) (c .before .before .before .before .before .before .before .before .before .before .loop .position) (c .before .before .before .before .before .before .before .before .before .loop-test .taken) _ (c .before .before .before .before .before .kind-of .ensures) (c .before .before .before .before .before .before .before .before .before .before .loop .inv) (sym (c .before .before .is-release .ensures) ∙ (c .before .if3 .taken)) (c .if4 .taken)
+loop-again c =
+    let is-release = c .before .before .is-release in
+    let kind-of = c .before .before .before .before .before .kind-of in
+    let loop-test = c .before .before .before .before .before .before .before .before .before .loop-test in
+    let loop = c .before .before .before .before .before .before .before .before .before .before .loop in
+    let args = c .before .before .before .before .before .before .before .before .before .before .before .before .args in
+    free-release (args .service) (args .message .now) (args .from) (loop .releases) (loop .position) (loop-test .taken) _ (kind-of .ensures) (loop .inv) (sym (is-release .ensures) ∙ (c .before .if3 .taken)) (c .if4 .taken)
 
 loop-less-2 : tie.Need-loop-less-2 Inv-loop μ-loop
-loop-less-2 c = omega (arith, (c .before .before .before .before .before .before .before .before .before .loop-test .taken))
+loop-less-2 c =
+    let loop-test = c .before .before .before .before .before .before .before .before .before .loop-test in
+    omega (arith, (loop-test .taken))
 
 loop-again-2 : tie.Need-loop-again-2 Inv-loop μ-loop
-loop-again-2 c = free-out (c .before .before .before .before .before .before .before .before .before .before .before .before .args .service) (c .before .before .before .before .before .before .before .before .before .before .before .before .args .message .now) (c .before .before .before .before .before .before .before .before .before .before .before .before .args .from) (c .before .before .before .before .before .before .before .before .before .before .loop .releases) (c .before .before .before .before .before .before .before .before .before .before .loop .position) (c .before .before .before .before .before .before .before .before .before .loop-test .taken) _ (c .before .before .before .before .before .kind-of .ensures) (c .before .before .before .before .before .before .before .before .before .before .loop .inv) (sym (c .before .before .is-release .ensures) ∙ (c .before .if3 .taken)) (c .if4 .left)
+loop-again-2 c =
+    let is-release = c .before .before .is-release in
+    let kind-of = c .before .before .before .before .before .kind-of in
+    let loop-test = c .before .before .before .before .before .before .before .before .before .loop-test in
+    let loop = c .before .before .before .before .before .before .before .before .before .before .loop in
+    let args = c .before .before .before .before .before .before .before .before .before .before .before .before .args in
+    free-out (args .service) (args .message .now) (args .from) (loop .releases) (loop .position) (loop-test .taken) _ (kind-of .ensures) (loop .inv) (sym (is-release .ensures) ∙ (c .before .if3 .taken)) (c .if4 .left)
 
 loop-less-3 : tie.Need-loop-less-3 Inv-loop μ-loop
-loop-less-3 c = omega (arith, (c .before .before .before .before .before .before .before .before .loop-test .taken))
+loop-less-3 c =
+    let loop-test = c .before .before .before .before .before .before .before .before .loop-test in
+    omega (arith, (loop-test .taken))
 
 loop-again-3 : tie.Need-loop-again-3 Inv-loop μ-loop
-loop-again-3 c = free-data (c .before .before .before .before .before .before .before .before .before .before .before .args .service) (c .before .before .before .before .before .before .before .before .before .before .before .args .message .now) (c .before .before .before .before .before .before .before .before .before .before .before .args .from) (c .before .before .before .before .before .before .before .before .before .loop .releases) (c .before .before .before .before .before .before .before .before .before .loop .position) (c .before .before .before .before .before .before .before .before .loop-test .taken) _ (c .before .before .before .before .kind-of .ensures) (c .before .before .before .before .before .before .before .before .before .loop .inv) (sym (c .before .before .before .is-mark .ensures) ∙ (c .before .before .if2 .left)) (sym (c .before .is-release .ensures) ∙ (c .if3 .left))
+loop-again-3 c =
+    let if2 = c .before .before .if2 in
+    let is-mark = c .before .before .before .is-mark in
+    let kind-of = c .before .before .before .before .kind-of in
+    let loop-test = c .before .before .before .before .before .before .before .before .loop-test in
+    let loop = c .before .before .before .before .before .before .before .before .before .loop in
+    let args = c .before .before .before .before .before .before .before .before .before .before .before .args in
+    free-data (args .service) (args .message .now) (args .from) (loop .releases) (loop .position) (loop-test .taken) _ (kind-of .ensures) (loop .inv) (sym (is-mark .ensures) ∙ (if2 .left)) (sym (c .before .is-release .ensures) ∙ (c .if3 .left))
 
 loop-less-4 : tie.Need-loop-less-4 Inv-loop μ-loop
 loop-less-4 c = omega (arith, (c .before .before .before .loop-test .taken))
 
 loop-again-4 : tie.Need-loop-again-4 Inv-loop μ-loop
-loop-again-4 c = free-text (c .before .before .before .before .before .before .args .service) (c .before .before .before .before .before .before .args .message .now) (c .before .before .before .before .before .before .args .from) (c .before .before .before .before .loop .releases) (c .before .before .before .before .loop .position) (c .before .before .before .loop-test .taken) _ refl (c .before .before .before .before .loop .inv) (sym (c .before .must-release .ensures) ∙ (c .if1 .left))
+loop-again-4 c =
+    let loop-test = c .before .before .before .loop-test in
+    let loop = c .before .before .before .before .loop in
+    let args = c .before .before .before .before .before .before .args in
+    free-text (args .service) (args .message .now) (args .from) (loop .releases) (loop .position) (loop-test .taken) _ refl (loop .inv) (sym (c .before .must-release .ensures) ∙ (c .if1 .left))
 
 returns-2 : tie.Need-returns-2 Inv-loop μ-loop
-returns-2 c = free-done (c .before .before .before .args .service) (c .before .before .before .args .message .now) (c .before .before .before .args .from) (c .before .loop .releases) (c .before .loop .position) (c .loop-test .left) (c .before .loop .inv)
+returns-2 c =
+    let args = c .before .before .before .args in
+    free-done (args .service) (args .message .now) (args .from) (c .before .loop .releases) (c .before .loop .position) (c .loop-test .left) (c .before .loop .inv)
 
 pub read-component-spec : {M : Type 1} → statement M
 read-component-spec =

@@ -25,7 +25,11 @@ opens-component-requires : tie.Need-opens-component-requires Inv-loop μ-loop
 opens-component-requires c κs = search needs
 
 returns : tie.Need-returns Inv-loop μ-loop
-returns c = skipping-done (c .before .before .before .before .before .args .service) (c .before .before .before .before .before .args .message .now) (c .before .before .before .before .before .args .from) (c .before .before .before .loop .start) (c .before .before .before .loop .inv) _ (c .before .before .read-component .ensures) (sym (c .before .opens-component .ensures) ∙ not-true _ (c .if1 .taken))
+returns c =
+    let loop = c .before .before .before .loop in
+    let read-component = c .before .before .read-component in
+    let args = c .before .before .before .before .before .args in
+    skipping-done (args .service) (args .message .now) (args .from) (loop .start) (loop .inv) _ (read-component .ensures) (sym (c .before .opens-component .ensures) ∙ not-true _ (c .if1 .taken))
 
 add-start : tie.Need-add-start Inv-loop μ-loop
 add-start c = let n = skipping-inside (c .before .before .before .before .before .args .service) (c .before .before .before .before .before .args .message .now) (c .before .before .before .before .before .args .from) (c .before .before .before .loop .start) (c .before .before .before .loop .inv) _ (c .before .before .read-component .ensures) (sym (c .before .opens-component .ensures) ∙ not-false _ (c .if1 .left)) in omega arith
@@ -34,7 +38,11 @@ loop-less : tie.Need-loop-less Inv-loop μ-loop
 loop-less c = let n = skipping-inside (c .before .before .before .before .before .args .service) (c .before .before .before .before .before .args .message .now) (c .before .before .before .before .before .args .from) (c .before .before .before .loop .start) (c .before .before .before .loop .inv) _ (c .before .before .read-component .ensures) (sym (c .before .opens-component .ensures) ∙ not-false _ (c .if1 .left)) in omega arith
 
 loop-again : tie.Need-loop-again Inv-loop μ-loop
-loop-again c = skipping-on (c .before .before .before .before .before .args .service) (c .before .before .before .before .before .args .message .now) (c .before .before .before .before .before .args .from) (c .before .before .before .loop .start) (c .before .before .before .loop .inv) _ (c .before .before .read-component .ensures) (sym (c .before .opens-component .ensures) ∙ not-false _ (c .if1 .left))
+loop-again c =
+    let loop = c .before .before .before .loop in
+    let read-component = c .before .before .read-component in
+    let args = c .before .before .before .before .before .args in
+    skipping-on (args .service) (args .message .now) (args .from) (loop .start) (loop .inv) _ (read-component .ensures) (sym (c .before .opens-component .ensures) ∙ not-false _ (c .if1 .left))
 
 pub skip-to-element-spec : {M : Type 1} → statement M
 skip-to-element-spec =

@@ -2,7 +2,7 @@
 use Prim.Native.Nat.{_-_}
 use native.Mathlib.Omega.{arith}
 use borrow.Author.Needs.{needs}
-use Rattle.book.specs.Guide.{guideOf}
+use Rattle.book.specs.meaning.Guide.{guideOf}
 use Rattle.fields.proofs.Segments.{Testing, testing-begin, testing-starts, testing-homes, testing-done, testing-found, testing-on}
 use Rattle.fields.proofs.passes.test_fields.Statement.{statement}
 use Rattle.fields.proofs.passes.test_fields.Tie as tie
@@ -14,16 +14,24 @@ abbrev μ-loop : tie.MeasureT-loop
 μ-loop service message segments book starts homes place₀ place = segments - place
 
 loop-holds : tie.Need-loop-holds Inv-loop μ-loop
-loop-holds c = testing-begin (c .before .before .before .before .args .service) (guideOf (c .before .before .before .before .args .book .now)) (c .before .before .before .before .args .message .now) (c .before .before .before .before .args .segments) (c .before .before .before .before .args .starts .now) (c .before .before .before .before .args .homes .now)
+loop-holds c =
+    let args = c .before .before .before .before .args in
+    testing-begin (args .service) (guideOf (args .book .now)) (args .message .now) (args .segments) (args .starts .now) (args .homes .now)
 
 cast-at : tie.Need-cast-at Inv-loop μ-loop
 cast-at c = search needs
 
 returns : tie.Need-returns Inv-loop μ-loop
-returns c = (testing-starts (c .before .before .before .before .before .before .before .args .service) (guideOf (c .before .before .before .before .before .before .before .args .book .now)) (c .before .before .before .before .before .before .before .args .message .now) (c .before .before .before .before .before .before .before .args .segments) (c .before .before .before .before .before .before .before .args .starts .now) (c .before .before .before .before .before .before .before .args .homes .now) (c .before .before .loop .place) (c .before .before .loop .inv) (c .if1 .taken), tt)
+returns c =
+    let loop = c .before .before .loop in
+    let args = c .before .before .before .before .before .before .before .args in
+    (testing-starts (args .service) (guideOf (args .book .now)) (args .message .now) (args .segments) (args .starts .now) (args .homes .now) (loop .place) (loop .inv) (c .if1 .taken), tt)
 
 returns-2 : tie.Need-returns-2 Inv-loop μ-loop
-returns-2 c = (testing-homes (c .before .before .before .before .before .before .before .before .args .service) (guideOf (c .before .before .before .before .before .before .before .before .args .book .now)) (c .before .before .before .before .before .before .before .before .args .message .now) (c .before .before .before .before .before .before .before .before .args .segments) (c .before .before .before .before .before .before .before .before .args .starts .now) (c .before .before .before .before .before .before .before .before .args .homes .now) (c .before .before .before .loop .place) (c .before .before .before .loop .inv) (c .if2 .taken), tt)
+returns-2 c =
+    let loop = c .before .before .before .loop in
+    let args = c .before .before .before .before .before .before .before .before .args in
+    (testing-homes (args .service) (guideOf (args .book .now)) (args .message .now) (args .segments) (args .starts .now) (args .homes .now) (loop .place) (loop .inv) (c .if2 .taken), tt)
 
 add-place : tie.Need-add-place Inv-loop μ-loop
 add-place c = omega (arith, (c .before .before .loop-test .taken))
@@ -50,7 +58,14 @@ enum-known-element : tie.Need-enum-known-element Inv-loop μ-loop
 enum-known-element c = search needs
 
 returns-3 : tie.Need-returns-3 Inv-loop μ-loop
-returns-3 c = testing-found (c .before .before .before .before .before .before .before .before .before .before .before .before .before .before .args .service) (guideOf (c .before .before .before .before .before .before .before .before .before .before .before .before .before .before .args .book .now)) (c .before .before .before .before .before .before .before .before .before .before .before .before .before .before .args .message .now) (c .before .before .before .before .before .before .before .before .before .before .before .before .before .before .args .segments) (c .before .before .before .before .before .before .before .before .before .before .before .before .before .before .args .starts .now) (c .before .before .before .before .before .before .before .before .before .before .before .before .before .before .args .homes .now) (c .before .before .before .before .before .before .before .before .before .loop .place) (c .before .before .before .before .before .before .before .before .before .loop .inv) (c .before .before .before .before .before .before .before .before .loop-test .taken) (c .before .before .before .before .before .before .before .if1 .left) (c .before .before .before .before .before .before .if2 .left) _ (c .before .before .before .find-fault .ensures) _ _ (c .before .element .given .1)
+returns-3 c =
+    let find-fault = c .before .before .before .find-fault in
+    let if2 = c .before .before .before .before .before .before .if2 in
+    let if1 = c .before .before .before .before .before .before .before .if1 in
+    let loop-test = c .before .before .before .before .before .before .before .before .loop-test in
+    let loop = c .before .before .before .before .before .before .before .before .before .loop in
+    let args = c .before .before .before .before .before .before .before .before .before .before .before .before .before .before .args in
+    testing-found (args .service) (guideOf (args .book .now)) (args .message .now) (args .segments) (args .starts .now) (args .homes .now) (loop .place) (loop .inv) (loop-test .taken) (if1 .left) (if2 .left) _ (find-fault .ensures) _ _ (c .before .element .given .1)
 
 enum-told : tie.Need-enum-told Inv-loop μ-loop
 enum-told c = search needs
@@ -59,10 +74,19 @@ loop-less : tie.Need-loop-less Inv-loop μ-loop
 loop-less c = omega (arith, (c .before .before .before .before .before .before .before .loop-test .taken))
 
 loop-again : tie.Need-loop-again Inv-loop μ-loop
-loop-again c = testing-on (c .before .before .before .before .before .before .before .before .before .before .before .before .before .args .service) (guideOf (c .before .before .before .before .before .before .before .before .before .before .before .before .before .args .book .now)) (c .before .before .before .before .before .before .before .before .before .before .before .before .before .args .message .now) (c .before .before .before .before .before .before .before .before .before .before .before .before .before .args .segments) (c .before .before .before .before .before .before .before .before .before .before .before .before .before .args .starts .now) (c .before .before .before .before .before .before .before .before .before .before .before .before .before .args .homes .now) (c .before .before .before .before .before .before .before .before .loop .place) (c .before .before .before .before .before .before .before .before .loop .inv) (c .before .before .before .before .before .before .before .loop-test .taken) (c .before .before .before .before .before .before .if1 .left) (c .before .before .before .before .before .if2 .left) _ (c .before .before .find-fault .ensures) (c .enum-told .given .1)
+loop-again c =
+    let find-fault = c .before .before .find-fault in
+    let if2 = c .before .before .before .before .before .if2 in
+    let if1 = c .before .before .before .before .before .before .if1 in
+    let loop-test = c .before .before .before .before .before .before .before .loop-test in
+    let loop = c .before .before .before .before .before .before .before .before .loop in
+    let args = c .before .before .before .before .before .before .before .before .before .before .before .before .before .args in
+    testing-on (args .service) (guideOf (args .book .now)) (args .message .now) (args .segments) (args .starts .now) (args .homes .now) (loop .place) (loop .inv) (loop-test .taken) (if1 .left) (if2 .left) _ (find-fault .ensures) (c .enum-told .given .1)
 
 returns-4 : tie.Need-returns-4 Inv-loop μ-loop
-returns-4 c = (testing-done (c .before .before .before .before .before .before .args .service) (guideOf (c .before .before .before .before .before .before .args .book .now)) (c .before .before .before .before .before .before .args .message .now) (c .before .before .before .before .before .before .args .segments) (c .before .before .before .before .before .before .args .starts .now) (c .before .before .before .before .before .before .args .homes .now) (c .before .loop .place) (c .before .loop .inv) (c .loop-test .left), tt)
+returns-4 c =
+    let args = c .before .before .before .before .before .before .args in
+    (testing-done (args .service) (guideOf (args .book .now)) (args .message .now) (args .segments) (args .starts .now) (args .homes .now) (c .before .loop .place) (c .before .loop .inv) (c .loop-test .left), tt)
 
 pub test-fields-spec : {M : Type 1} → statement M
 test-fields-spec =

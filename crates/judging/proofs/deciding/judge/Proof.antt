@@ -1,9 +1,6 @@
--- `deciding::judge` meets its contract: the standard service characters are good.
-use Rattle.judging.specs.Table.{tables}
-use Rattle.judging.proofs.Decisions.{standard-decided}
-use mathlib.Core.Path.{sym, _∙_, subst}
-use Rattle.reading.specs.Service.{GoodService}
-use Rattle.reading.proofs.Services.{good-standard}
+-- `deciding::judge` meets its contract: it hands on what `judge_with` promises of the standard service characters.
+use Rattle.judging.specs.meaning.Tables.{tables}
+use Rattle.judging.proofs.Decided.{standard-decided}
 use borrow.Author.Needs.{needs}
 use Rattle.judging.proofs.deciding.judge.Statement.{statement}
 use Rattle.judging.proofs.deciding.judge.Tie as tie
@@ -12,7 +9,7 @@ standard-requires : tie.Need-standard-requires
 standard-requires c κs = search needs
 
 judge-with-requires : tie.Need-judge-with-requires
-judge-with-requires c κs = subst GoodService (sym ((c .before .before .before .standard .ensures))) good-standard
+judge-with-requires c κs = search needs
 
 same-length : tie.Need-same-length
 same-length c = search needs
@@ -24,7 +21,11 @@ same-length-3 : tie.Need-same-length-3
 same-length-3 c = search needs
 
 returns : tie.Need-returns
-returns c = standard-decided _ ((c .before .before .before .before .before .before .before .before .before .before .standard .ensures)) _ ((c .before .before .before .before .before .before .before .before .before .before .before .before .before .before .before .before .before .args .message .now)) ((c .before .before .before .before .before .before .before .before .before .before .before .before .before .before .before .before .before .args .book .now)) ((c .before .before .before .before .before .before .before .before .before .before .before .before .before .before .before .before .before .args .conditions .now)) (tables ((c .before .before .before .before .before .before .before .before .before .before .before .before .before .before .before .before .before .args .starts .now)) ((c .before .before .before .before .before .before .before .before .before .before .before .before .before .before .before .before .before .args .homes .now)) ((c .before .before .before .before .before .before .before .before .before .before .before .before .before .before .before .before .before .args .parents .now))) (tables _ _ _) ((c .before .before .before .before .before .before .judge-with .ensures))
+returns c =
+    let judge-with = c .before .before .before .before .before .before .judge-with in
+    let standard = c .before .before .before .before .before .before .before .before .before .before .standard in
+    let args = c .before .before .before .before .before .before .before .before .before .before .before .before .before .before .before .before .before .args in
+    standard-decided _ (standard .ensures) _ (args .message .now) (args .book .now) (args .conditions .now) (tables (args .starts .now) (args .homes .now) (args .parents .now)) (tables _ _ _) (judge-with .ensures)
 
 pub judge-spec : {M : Type 1} → statement M
 judge-spec =

@@ -18,7 +18,10 @@ shared-slice-read-result : tie.Need-shared-slice-read-result
 shared-slice-read-result c = search needs
 
 returns-3 : tie.Need-returns-3
-returns-3 c = entry-within ((c .before .before .before .args .entries)) ((c .before .before .before .args .at)) ((c .before .before .before .args .table .now)) ((c .before .before .if1 .left))
+returns-3 c =
+    let if1 = c .before .before .if1 in
+    let args = c .before .before .before .args in
+    entry-within (args .entries) (args .at) (args .table .now) (if1 .left)
 
 pub entry-at-spec : {M : Type 1} → statement M
 entry-at-spec =

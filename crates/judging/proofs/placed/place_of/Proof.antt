@@ -18,7 +18,10 @@ cast-at : tie.Need-cast-at Inv-loop μ-loop
 cast-at c = omega (arith, ((c .loop-test .taken)), ((c .before .before .fits .segments)))
 
 returns : tie.Need-returns Inv-loop μ-loop
-returns c = looking-short ((c .before .before .before .args .line)) ((c .before .before .before .args .segments)) ((c .before .before .before .args .homes .now)) ((c .before .before .loop .place)) ((c .before .before .loop .inv)) ((c .if1 .taken))
+returns c =
+    let loop = c .before .before .loop in
+    let args = c .before .before .before .args in
+    looking-short (args .line) (args .segments) (args .homes .now) (loop .place) (loop .inv) ((c .if1 .taken))
 
 add-place : tie.Need-add-place Inv-loop μ-loop
 add-place c = omega (arith, ((c .before .loop-test .taken)), ((c .before .before .before .fits .segments)))
@@ -30,16 +33,28 @@ shared-slice-read-if2 : tie.Need-shared-slice-read-if2 Inv-loop μ-loop
 shared-slice-read-if2 c = omega arith
 
 returns-2 : tie.Need-returns-2 Inv-loop μ-loop
-returns-2 c = looking-found ((c .before .before .before .before .before .args .line)) ((c .before .before .before .before .before .args .segments)) ((c .before .before .before .before .before .args .homes .now)) ((c .before .before .before .before .loop .place)) ((c .before .before .before .before .loop .inv)) ((c .before .before .before .loop-test .taken)) ((c .before .before .if1 .left)) ((c .if2 .taken))
+returns-2 c =
+    let if1 = c .before .before .if1 in
+    let loop-test = c .before .before .before .loop-test in
+    let loop = c .before .before .before .before .loop in
+    let args = c .before .before .before .before .before .args in
+    looking-found (args .line) (args .segments) (args .homes .now) (loop .place) (loop .inv) (loop-test .taken) (if1 .left) ((c .if2 .taken))
 
 loop-less : tie.Need-loop-less Inv-loop μ-loop
 loop-less c = omega (arith, ((c .before .before .before .loop-test .taken)))
 
 loop-again : tie.Need-loop-again Inv-loop μ-loop
-loop-again c = looking-on ((c .before .before .before .before .before .args .line)) ((c .before .before .before .before .before .args .segments)) ((c .before .before .before .before .before .args .homes .now)) ((c .before .before .before .before .loop .place)) ((c .before .before .before .before .loop .inv)) ((c .before .before .before .loop-test .taken)) ((c .before .before .if1 .left)) ((c .if2 .left))
+loop-again c =
+    let if1 = c .before .before .if1 in
+    let loop-test = c .before .before .before .loop-test in
+    let loop = c .before .before .before .before .loop in
+    let args = c .before .before .before .before .before .args in
+    looking-on (args .line) (args .segments) (args .homes .now) (loop .place) (loop .inv) (loop-test .taken) (if1 .left) ((c .if2 .left))
 
 returns-3 : tie.Need-returns-3 Inv-loop μ-loop
-returns-3 c = looking-done ((c .before .before .args .line)) ((c .before .before .args .segments)) ((c .before .before .args .homes .now)) ((c .before .loop .place)) ((c .before .loop .inv)) ((c .loop-test .left))
+returns-3 c =
+    let args = c .before .before .args in
+    looking-done (args .line) (args .segments) (args .homes .now) ((c .before .loop .place)) ((c .before .loop .inv)) ((c .loop-test .left))
 
 pub place-of-spec : {M : Type 1} → statement M
 place-of-spec =

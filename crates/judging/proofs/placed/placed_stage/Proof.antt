@@ -2,11 +2,11 @@
 use native.Mathlib.Omega.{arith}
 use mathlib.Core.Path.{sym, ap, _∙_}
 use lib.ListN.{length, take}
-use Rattle.book.specs.Guide.{guideOf}
-use Rattle.rules.specs.Identifiers.{identified}
+use Rattle.book.specs.meaning.Guide.{guideOf}
+use Rattle.rules.specs.method.Identifiers.{identified}
 use Rattle.fields.specs.declared.passes.FirstFault.{FirstFault}
-use Rattle.judging.specs.Table.{identifierIn, fieldsVerdict}
-use Rattle.judging.specs.Placed.{foundVerdict}
+use Rattle.judging.specs.method.Table.{identifierIn, identifierVerdict}
+use Rattle.judging.specs.meaning.Answers.{fieldsVerdict}
 use Rattle.judging.proofs.PlacedStages.{in-reach}
 use borrow.Author.Needs.{needs}
 use Rattle.judging.proofs.placed.placed_stage.Statement.{statement}
@@ -34,10 +34,17 @@ rules-stage-requires : tie.Need-rules-stage-requires
 rules-stage-requires c κs = search needs
 
 returns : tie.Need-returns
-returns c = ((c .fault-verdict .ensures)) ∙ ap (λ (f : FirstFault). fieldsVerdict f (foundVerdict (guideOf ((c .before .before .before .before .before .before .before .before .before .before .args .book .now))) ((c .before .before .before .before .before .before .before .before .before .before .args .conditions .now)) ((c .before .before .before .before .before .before .before .before .before .before .args .segments)) (take ((c .before .before .before .before .before .before .before .before .before .before .args .segments)) ((c .before .before .before .before .before .before .before .before .before .before .args .homes .now))) (identified (guideOf ((c .before .before .before .before .before .before .before .before .before .before .args .book .now))) (identifierIn ((c .before .before .before .before .before .before .before .before .before .before .args .service)) (guideOf ((c .before .before .before .before .before .before .before .before .before .before .args .book .now))) ((c .before .before .before .before .before .before .before .before .before .before .args .message .now)) (take ((c .before .before .before .before .before .before .before .before .before .before .args .segments)) ((c .before .before .before .before .before .before .before .before .before .before .args .starts .now))) (take ((c .before .before .before .before .before .before .before .before .before .before .args .segments)) ((c .before .before .before .before .before .before .before .before .before .before .args .homes .now))))))) (sym ((c .before .before .place .given .1)) ∙ ((c .before .before .before .before .test-fields .ensures .0)))
+returns c =
+    let place = c .before .before .place in
+    let test-fields = c .before .before .before .before .test-fields in
+    let args = c .before .before .before .before .before .before .before .before .before .before .args in
+    ((c .fault-verdict .ensures)) ∙ ap (λ (f : FirstFault). fieldsVerdict f (identifierVerdict (guideOf (args .book .now)) (args .conditions .now) (args .segments) (take (args .segments) (args .homes .now)) (identified (guideOf (args .book .now)) (identifierIn (args .service) (guideOf (args .book .now)) (args .message .now) (take (args .segments) (args .starts .now)) (take (args .segments) (args .homes .now)))))) (sym (place .given .1) ∙ (test-fields .ensures .0))
 
 returns-2 : tie.Need-returns-2
-returns-2 c = ((c .rules-stage .ensures)) ∙ ap (λ (f : FirstFault). fieldsVerdict f (foundVerdict (guideOf ((c .before .before .before .before .before .before .before .before .before .args .book .now))) ((c .before .before .before .before .before .before .before .before .before .args .conditions .now)) ((c .before .before .before .before .before .before .before .before .before .args .segments)) (take ((c .before .before .before .before .before .before .before .before .before .args .segments)) ((c .before .before .before .before .before .before .before .before .before .args .homes .now))) (identified (guideOf ((c .before .before .before .before .before .before .before .before .before .args .book .now))) (identifierIn ((c .before .before .before .before .before .before .before .before .before .args .service)) (guideOf ((c .before .before .before .before .before .before .before .before .before .args .book .now))) ((c .before .before .before .before .before .before .before .before .before .args .message .now)) (take ((c .before .before .before .before .before .before .before .before .before .args .segments)) ((c .before .before .before .before .before .before .before .before .before .args .starts .now))) (take ((c .before .before .before .before .before .before .before .before .before .args .segments)) ((c .before .before .before .before .before .before .before .before .before .args .homes .now))))))) (sym ((c .before .enum-told .given .1)) ∙ ((c .before .before .before .test-fields .ensures .0)))
+returns-2 c =
+    let test-fields = c .before .before .before .test-fields in
+    let args = c .before .before .before .before .before .before .before .before .before .args in
+    ((c .rules-stage .ensures)) ∙ ap (λ (f : FirstFault). fieldsVerdict f (identifierVerdict (guideOf (args .book .now)) (args .conditions .now) (args .segments) (take (args .segments) (args .homes .now)) (identified (guideOf (args .book .now)) (identifierIn (args .service) (guideOf (args .book .now)) (args .message .now) (take (args .segments) (args .starts .now)) (take (args .segments) (args .homes .now)))))) (sym ((c .before .enum-told .given .1)) ∙ (test-fields .ensures .0))
 
 pub placed-stage-spec : {M : Type 1} → statement M
 placed-stage-spec =

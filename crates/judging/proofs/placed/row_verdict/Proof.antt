@@ -1,6 +1,6 @@
 -- `placed::row_verdict` meets its contract.
 use mathlib.Core.Path.{sym, ap, _∙_}
-use Rattle.judging.specs.Table.{rowsVerdict}
+use Rattle.judging.specs.meaning.Answers.{rowsVerdict}
 use Rattle.judging.proofs.PlacedStages.{broken-row, open-row}
 use borrow.Author.Needs.{needs}
 use Rattle.judging.proofs.placed.row_verdict.Statement.{statement}
@@ -22,10 +22,18 @@ returns : tie.Need-returns
 returns c = ((c .before .before .answer .ensures)) ∙ ap (rowsVerdict ((c .before .before .before .args .segments))) (sym ((c .enum-told .given .1)))
 
 returns-2 : tie.Need-returns-2
-returns-2 c = broken-row ((c .before .before .before .before .before .before .args .segments)) _ _ _ _ ((c .before .before .before .before .before .answer .ensures)) ((c .before .before .before .found .given .1))
+returns-2 c =
+    let found = c .before .before .before .found in
+    let answer = c .before .before .before .before .before .answer in
+    let args = c .before .before .before .before .before .before .args in
+    broken-row (args .segments) _ _ _ _ (answer .ensures) (found .given .1)
 
 returns-3 : tie.Need-returns-3
-returns-3 c = open-row ((c .before .before .before .before .before .before .args .segments)) _ _ _ _ _ ((c .before .before .before .before .before .answer .ensures)) ((c .before .before .before .found2 .given .1))
+returns-3 c =
+    let found2 = c .before .before .before .found2 in
+    let answer = c .before .before .before .before .before .answer in
+    let args = c .before .before .before .before .before .before .args in
+    open-row (args .segments) _ _ _ _ _ (answer .ensures) (found2 .given .1)
 
 pub row-verdict-spec : {M : Type 1} → statement M
 row-verdict-spec =

@@ -1,7 +1,7 @@
 -- `placed::rules_stage` meets its contract: the component that is looked up is the Prüfidentifikator.
 use mathlib.Core.Path.{_∙_}
 use lib.ListN.{take}
-use Rattle.book.specs.Guide.{guideOf}
+use Rattle.book.specs.meaning.Guide.{guideOf}
 use Rattle.judging.proofs.PlacedStages.{foreign-found, known-found}
 use borrow.Author.Needs.{needs}
 use Rattle.judging.proofs.placed.rules_stage.Statement.{statement}
@@ -44,10 +44,27 @@ row-verdict-requires : tie.Need-row-verdict-requires
 row-verdict-requires c κs = search needs
 
 returns : tie.Need-returns
-returns c = ((c .answer .ensures)) ∙ foreign-found ((c .before .before .before .before .before .before .before .before .before .before .before .before .before .before .args .service)) (guideOf ((c .before .before .before .before .before .before .before .before .before .before .before .before .before .before .args .book .now))) ((c .before .before .before .before .before .before .before .before .before .before .before .before .before .before .args .message .now)) (take ((c .before .before .before .before .before .before .before .before .before .before .before .before .before .before .args .segments)) ((c .before .before .before .before .before .before .before .before .before .before .before .before .before .before .args .starts .now))) (take ((c .before .before .before .before .before .before .before .before .before .before .before .before .before .before .args .segments)) ((c .before .before .before .before .before .before .before .before .before .before .before .before .before .before .args .homes .now))) _ _ _ _ _ _ ((c .before .before .before .before .before .before .before .before .carrier .ensures .0)) ((c .before .before .before .before .before .before .before .place-of .ensures)) ((c .before .before .before .before .before .before .entry-for .ensures)) ((c .before .before .before .before .before .entry-at .ensures)) ((c .before .before .before .before .find-component .ensures .bytes)) ((c .before .before .before .find-identifier .ensures)) ((c .before .before .before .before .before .before .before .before .before .before .before .before .before .before .args .conditions .now)) ((c .before .before .before .before .before .before .before .before .before .before .before .before .before .before .args .segments)) ((c .before .enum-told .given .1))
+returns c =
+    let find-identifier = c .before .before .before .find-identifier in
+    let find-component = c .before .before .before .before .find-component in
+    let entry-at = c .before .before .before .before .before .entry-at in
+    let entry-for = c .before .before .before .before .before .before .entry-for in
+    let place-of = c .before .before .before .before .before .before .before .place-of in
+    let carrier = c .before .before .before .before .before .before .before .before .carrier in
+    let args = c .before .before .before .before .before .before .before .before .before .before .before .before .before .before .args in
+    ((c .answer .ensures)) ∙ foreign-found (args .service) (guideOf (args .book .now)) (args .message .now) (take (args .segments) (args .starts .now)) (take (args .segments) (args .homes .now)) _ _ _ _ _ _ (carrier .ensures .0) (place-of .ensures) (entry-for .ensures) (entry-at .ensures) (find-component .ensures .bytes) (find-identifier .ensures) (args .conditions .now) (args .segments) ((c .before .enum-told .given .1))
 
 returns-2 : tie.Need-returns-2
-returns-2 c = ((c .row-verdict .ensures)) ∙ known-found ((c .before .before .before .before .before .before .before .before .before .before .before .before .before .before .before .before .args .service)) (guideOf ((c .before .before .before .before .before .before .before .before .before .before .before .before .before .before .before .before .args .book .now))) ((c .before .before .before .before .before .before .before .before .before .before .before .before .before .before .before .before .args .message .now)) (take ((c .before .before .before .before .before .before .before .before .before .before .before .before .before .before .before .before .args .segments)) ((c .before .before .before .before .before .before .before .before .before .before .before .before .before .before .before .before .args .starts .now))) (take ((c .before .before .before .before .before .before .before .before .before .before .before .before .before .before .before .before .args .segments)) ((c .before .before .before .before .before .before .before .before .before .before .before .before .before .before .before .before .args .homes .now))) _ _ _ _ _ _ ((c .before .before .before .before .before .before .before .before .before .before .carrier .ensures .0)) ((c .before .before .before .before .before .before .before .before .before .place-of .ensures)) ((c .before .before .before .before .before .before .before .before .entry-for .ensures)) ((c .before .before .before .before .before .before .before .entry-at .ensures)) ((c .before .before .before .before .before .before .find-component .ensures .bytes)) ((c .before .before .before .before .before .find-identifier .ensures)) ((c .before .before .before .before .before .before .before .before .before .before .before .before .before .before .before .before .args .conditions .now)) ((c .before .before .before .before .before .before .before .before .before .before .before .before .before .before .before .before .args .segments)) _ _ ((c .before .before .before .known .given .1)) ((c .before .first-row .ensures))
+returns-2 c =
+    let known = c .before .before .before .known in
+    let find-identifier = c .before .before .before .before .before .find-identifier in
+    let find-component = c .before .before .before .before .before .before .find-component in
+    let entry-at = c .before .before .before .before .before .before .before .entry-at in
+    let entry-for = c .before .before .before .before .before .before .before .before .entry-for in
+    let place-of = c .before .before .before .before .before .before .before .before .before .place-of in
+    let carrier = c .before .before .before .before .before .before .before .before .before .before .carrier in
+    let args = c .before .before .before .before .before .before .before .before .before .before .before .before .before .before .before .before .args in
+    ((c .row-verdict .ensures)) ∙ known-found (args .service) (guideOf (args .book .now)) (args .message .now) (take (args .segments) (args .starts .now)) (take (args .segments) (args .homes .now)) _ _ _ _ _ _ (carrier .ensures .0) (place-of .ensures) (entry-for .ensures) (entry-at .ensures) (find-component .ensures .bytes) (find-identifier .ensures) (args .conditions .now) (args .segments) _ _ (known .given .1) ((c .before .first-row .ensures))
 
 pub rules-stage-spec : {M : Type 1} → statement M
 rules-stage-spec =

@@ -2,7 +2,7 @@
 use mathlib.Core.Path.{_∙_}
 use mathlib.Core.Bool.{true, false}
 use borrow.Author.Tests.{not-true, not-false}
-use Rattle.book.specs.Guide.{guideOf}
+use Rattle.book.specs.meaning.Guide.{guideOf}
 use Rattle.judging.proofs.Refusals.{conditions-many, conditions-known}
 use borrow.Author.Needs.{needs}
 use Rattle.judging.proofs.refusing.conditions_stage.Statement.{statement}
@@ -18,7 +18,10 @@ answer-requires : tie.Need-answer-requires
 answer-requires c κs = search needs
 
 returns : tie.Need-returns
-returns c = ((c .answer .ensures)) ∙ conditions-many ((c .before .before .before .before .before .args .conditions .now)) (guideOf ((c .before .before .before .before .before .args .book .now))) _ ((c .before .before .conditions .ensures .0)) ((c .before .if1 .taken))
+returns c =
+    let conditions = c .before .before .conditions in
+    let args = c .before .before .before .before .before .args in
+    ((c .answer .ensures)) ∙ conditions-many (args .conditions .now) (guideOf (args .book .now)) _ (conditions .ensures .0) ((c .before .if1 .taken))
 
 are-known-requires : tie.Need-are-known-requires
 are-known-requires c κs = search needs
@@ -27,13 +30,23 @@ answer-requires-2 : tie.Need-answer-requires-2
 answer-requires-2 c κs = search needs
 
 returns-2 : tie.Need-returns-2
-returns-2 c = ((c .answer2 .ensures)) ∙ conditions-known ((c .before .before .before .before .before .before .before .args .conditions .now)) (guideOf ((c .before .before .before .before .before .before .before .args .book .now))) _ ((c .before .before .before .before .conditions .ensures .0)) _ false ((c .before .before .before .if1 .left)) ((c .before .before .are-known .ensures)) (not-true _ ((c .before .if2 .taken)))
+returns-2 c =
+    let are-known = c .before .before .are-known in
+    let if1 = c .before .before .before .if1 in
+    let conditions = c .before .before .before .before .conditions in
+    let args = c .before .before .before .before .before .before .before .args in
+    ((c .answer2 .ensures)) ∙ conditions-known (args .conditions .now) (guideOf (args .book .now)) _ (conditions .ensures .0) _ false (if1 .left) (are-known .ensures) (not-true _ ((c .before .if2 .taken)))
 
 answer-requires-3 : tie.Need-answer-requires-3
 answer-requires-3 c κs = search needs
 
 returns-3 : tie.Need-returns-3
-returns-3 c = ((c .answer3 .ensures)) ∙ conditions-known ((c .before .before .before .before .before .before .before .args .conditions .now)) (guideOf ((c .before .before .before .before .before .before .before .args .book .now))) _ ((c .before .before .before .before .conditions .ensures .0)) _ true ((c .before .before .before .if1 .left)) ((c .before .before .are-known .ensures)) (not-false _ ((c .before .if2 .left)))
+returns-3 c =
+    let are-known = c .before .before .are-known in
+    let if1 = c .before .before .before .if1 in
+    let conditions = c .before .before .before .before .conditions in
+    let args = c .before .before .before .before .before .before .before .args in
+    ((c .answer3 .ensures)) ∙ conditions-known (args .conditions .now) (guideOf (args .book .now)) _ (conditions .ensures .0) _ true (if1 .left) (are-known .ensures) (not-false _ ((c .before .if2 .left)))
 
 pub conditions-stage-spec : {M : Type 1} → statement M
 conditions-stage-spec =

@@ -3,8 +3,8 @@ use Prim.Native.Nat.{_+_}
 use native.Mathlib.Omega.{arith}
 use mathlib.Core.Path.{_≡_, refl, sym, _∙_}
 use borrow.Author.Needs.{needs}
-use Rattle.book.specs.Guide.{guideOf}
-use Rattle.placing.specs.Fitting.{isAnyCode}
+use Rattle.book.specs.meaning.Guide.{guideOf}
+use Rattle.placing.specs.method.Fitting.{isAnyCode}
 use Rattle.placing.proofs.Finding.{any-end, any-here, any-on}
 use Rattle.placing.proofs.code.is_any_code.Statement.{statement}
 use Rattle.placing.proofs.code.is_any_code.Tie as tie
@@ -22,10 +22,18 @@ is-code-requires : tie.Need-is-code-requires Inv-loop μ-loop
 is-code-requires c κs = search needs
 
 returns : tie.Need-returns Inv-loop μ-loop
-returns c = sym (any-here (guideOf (c .before .before .before .before .before .before .args .book .now)) (c .before .before .before .loop .code) (c .before .before .before .loop .left) (c .before .before .before .before .before .before .args .part .now) (c .before .before .loop-test .taken) (sym (c .before .is-code .ensures) ∙ (c .if1 .taken))) ∙ (c .before .before .before .loop .inv .0)
+returns c =
+    let loop-test = c .before .before .loop-test in
+    let loop = c .before .before .before .loop in
+    let args = c .before .before .before .before .before .before .args in
+    sym (any-here (guideOf (args .book .now)) (loop .code) (loop .left) (args .part .now) (loop-test .taken) (sym (c .before .is-code .ensures) ∙ (c .if1 .taken))) ∙ (loop .inv .0)
 
 add-code : tie.Need-add-code Inv-loop μ-loop
-add-code c = omega (arith, (c .before .before .before .loop .inv .1), (c .before .before .before .before .before .before .pre), (c .before .before .loop-test .taken))
+add-code c =
+    let loop-test = c .before .before .loop-test in
+    let loop = c .before .before .before .loop in
+    let fits = c .before .before .before .before .before .before .fits in
+    omega (arith, (loop .inv .1), (fits .first), (fits .count), (loop-test .taken))
 
 sub-left : tie.Need-sub-left Inv-loop μ-loop
 sub-left c = omega (arith, (c .before .before .loop-test .taken))
@@ -34,10 +42,16 @@ loop-less : tie.Need-loop-less Inv-loop μ-loop
 loop-less c = omega (arith, (c .before .before .loop-test .taken))
 
 loop-again : tie.Need-loop-again Inv-loop μ-loop
-loop-again c = (any-on (guideOf (c .before .before .before .before .before .before .args .book .now)) (c .before .before .before .loop .code) (c .before .before .before .loop .left) (c .before .before .before .before .before .before .args .part .now) (c .before .before .loop-test .taken) (sym (c .before .is-code .ensures) ∙ (c .if1 .left)) ∙ (c .before .before .before .loop .inv .0), omega (arith, (c .before .before .before .loop .inv .1), (c .before .before .loop-test .taken)))
+loop-again c =
+    let loop-test = c .before .before .loop-test in
+    let loop = c .before .before .before .loop in
+    let args = c .before .before .before .before .before .before .args in
+    (any-on (guideOf (args .book .now)) (loop .code) (loop .left) (args .part .now) (loop-test .taken) (sym (c .before .is-code .ensures) ∙ (c .if1 .left)) ∙ (loop .inv .0), omega (arith, (loop .inv .1), (loop-test .taken)))
 
 returns-2 : tie.Need-returns-2 Inv-loop μ-loop
-returns-2 c = sym (any-end (guideOf (c .before .before .before .before .args .book .now)) (c .before .loop .code) (c .before .loop .left) (c .before .before .before .before .args .part .now) (c .loop-test .left)) ∙ (c .before .loop .inv .0)
+returns-2 c =
+    let args = c .before .before .before .before .args in
+    sym (any-end (guideOf (args .book .now)) (c .before .loop .code) (c .before .loop .left) (args .part .now) (c .loop-test .left)) ∙ (c .before .loop .inv .0)
 
 pub is-any-code-spec : {M : Type 1} → statement M
 is-any-code-spec =

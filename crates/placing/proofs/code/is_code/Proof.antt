@@ -4,8 +4,8 @@ use native.Mathlib.Omega.{arith}
 use mathlib.Core.Path.{_≡_, refl, sym, _∙_}
 use lib.ListN.{length, drop}
 use borrow.Author.Needs.{needs}
-use Rattle.book.specs.Guide.{guideOf}
-use Rattle.placing.specs.Fitting.{spells}
+use Rattle.book.specs.meaning.Guide.{guideOf}
+use Rattle.placing.specs.method.Fitting.{spells}
 use Rattle.placing.proofs.Finding.{spell-end, spell-differs, spell-on, code-other-length, code-spelt}
 use Rattle.placing.proofs.code.is_code.Statement.{statement}
 use Rattle.placing.proofs.code.is_code.Tie as tie
@@ -23,7 +23,9 @@ cast-long : tie.Need-cast-long Inv-loop μ-loop
 cast-long c = search needs
 
 returns : tie.Need-returns Inv-loop μ-loop
-returns c = code-other-length (guideOf (c .before .before .before .before .args .book .now)) (c .before .before .before .before .args .code) _ (c .before .before .before .before .args .part .now) (c .before .code-length .ensures .0) (c .if1 .taken)
+returns c =
+    let args = c .before .before .before .before .args in
+    code-other-length (guideOf (args .book .now)) (args .code) _ (args .part .now) (c .before .code-length .ensures .0) (c .if1 .taken)
 
 loop-holds : tie.Need-loop-holds Inv-loop μ-loop
 loop-holds c = (refl, omega arith)
@@ -44,19 +46,37 @@ code-byte-requires : tie.Need-code-byte-requires Inv-loop μ-loop
 code-byte-requires c κs = search needs
 
 returns-2 : tie.Need-returns-2 Inv-loop μ-loop
-returns-2 c = code-spelt (guideOf (c .before .before .before .before .before .before .before .before .before .args .book .now)) (c .before .before .before .before .before .before .before .before .before .args .code) _ (c .before .before .before .before .before .before .before .before .before .args .part .now) _ (c .before .before .before .before .before .before .code-length .ensures .0) (c .before .before .before .before .before .if1 .left) (sym (spell-differs (guideOf (c .before .before .before .before .before .before .before .before .before .args .book .now) .codeByte (c .before .before .before .before .before .before .before .before .before .args .code)) (c .before .before .before .before .before .before .before .before .before .args .part .now) (c .before .before .before .before .loop .at) _ (c .before .before .before .loop-test .taken) (c .before .code-byte .ensures .0) (c .if2 .taken)) ∙ (c .before .before .before .before .loop .inv .0))
+returns-2 c =
+    let loop-test = c .before .before .before .loop-test in
+    let loop = c .before .before .before .before .loop in
+    let if1 = c .before .before .before .before .before .if1 in
+    let code-length = c .before .before .before .before .before .before .code-length in
+    let args = c .before .before .before .before .before .before .before .before .before .args in
+    code-spelt (guideOf (args .book .now)) (args .code) _ (args .part .now) _ (code-length .ensures .0) (if1 .left) (sym (spell-differs (guideOf (args .book .now) .codeByte (args .code)) (args .part .now) (loop .at) _ (loop-test .taken) (c .before .code-byte .ensures .0) (c .if2 .taken)) ∙ (loop .inv .0))
 
 add-at : tie.Need-add-at Inv-loop μ-loop
-add-at c = omega (arith, (c .before .before .before .loop-test .taken), (c .before .before .before .before .before .if1 .left), (c .before .before .before .before .before .before .code-length .ensures .1))
+add-at c =
+    let loop-test = c .before .before .before .loop-test in
+    let if1 = c .before .before .before .before .before .if1 in
+    let code-length = c .before .before .before .before .before .before .code-length in
+    omega (arith, (loop-test .taken), (if1 .left), (code-length .ensures .1))
 
 loop-less : tie.Need-loop-less Inv-loop μ-loop
 loop-less c = omega (arith, (c .before .before .before .loop-test .taken))
 
 loop-again : tie.Need-loop-again Inv-loop μ-loop
-loop-again c = (spell-on (guideOf (c .before .before .before .before .before .before .before .before .before .args .book .now) .codeByte (c .before .before .before .before .before .before .before .before .before .args .code)) (c .before .before .before .before .before .before .before .before .before .args .part .now) (c .before .before .before .before .loop .at) _ (c .before .before .before .loop-test .taken) (c .before .code-byte .ensures .0) (c .if2 .left) ∙ (c .before .before .before .before .loop .inv .0), omega (arith, (c .before .before .before .loop-test .taken)))
+loop-again c =
+    let loop-test = c .before .before .before .loop-test in
+    let loop = c .before .before .before .before .loop in
+    let args = c .before .before .before .before .before .before .before .before .before .args in
+    (spell-on (guideOf (args .book .now) .codeByte (args .code)) (args .part .now) (loop .at) _ (loop-test .taken) (c .before .code-byte .ensures .0) (c .if2 .left) ∙ (loop .inv .0), omega (arith, (loop-test .taken)))
 
 returns-3 : tie.Need-returns-3 Inv-loop μ-loop
-returns-3 c = code-spelt (guideOf (c .before .before .before .before .before .before .args .book .now)) (c .before .before .before .before .before .before .args .code) _ (c .before .before .before .before .before .before .args .part .now) _ (c .before .before .before .code-length .ensures .0) (c .before .before .if1 .left) (sym (spell-end (guideOf (c .before .before .before .before .before .before .args .book .now) .codeByte (c .before .before .before .before .before .before .args .code)) (c .before .before .before .before .before .before .args .part .now) (c .before .loop .at) (c .loop-test .left)) ∙ (c .before .loop .inv .0))
+returns-3 c =
+    let if1 = c .before .before .if1 in
+    let code-length = c .before .before .before .code-length in
+    let args = c .before .before .before .before .before .before .args in
+    code-spelt (guideOf (args .book .now)) (args .code) _ (args .part .now) _ (code-length .ensures .0) (if1 .left) (sym (spell-end (guideOf (args .book .now) .codeByte (args .code)) (args .part .now) (c .before .loop .at) (c .loop-test .left)) ∙ (c .before .loop .inv .0))
 
 pub is-code-spec : {M : Type 1} → statement M
 is-code-spec =

@@ -4,9 +4,10 @@ use Prim.Native.Nat.{suc, _-_}
 use native.Mathlib.Omega.{arith}
 use mathlib.Core.Path.{_≡_, sym, refl, _∙_}
 use borrow.Author.Needs.{needs}
-use Rattle.book.specs.Guide.{guideOf}
-use Rattle.placing.specs.Fitting.{least, fitsAt}
-use Rattle.placing.specs.Kept.{Looked}
+use Rattle.book.specs.meaning.Guide.{guideOf}
+use Rattle.placing.specs.meaning.Fitting.{least}
+use Rattle.placing.specs.method.Fitting.{fitsAt}
+use Rattle.placing.specs.method.Kept.{Looked}
 use Rattle.placing.proofs.Finding.{least-none, least-here, least-on, fits-not, fits-selected}
 use Rattle.placing.proofs.home.find_from.Statement.{statement}
 use Rattle.placing.proofs.home.find_from.Tie as tie
@@ -33,28 +34,59 @@ tag-of-requires : tie.Need-tag-of-requires Inv-loop μ-loop
 tag-of-requires c κs = (c .before .before .before .before .before .before .pre .1)
 
 select-requires : tie.Need-select-requires Inv-loop μ-loop
-select-requires c κs = ((c .before .before .before .before .before .before .before .before .pre .0), (c .before .before .before .loop .inv .1))
+select-requires c κs =
+    let loop = c .before .before .before .loop in
+    let pre = c .before .before .before .before .before .before .before .before .pre in
+    ((pre .0), (loop .inv .1))
 
 is-selected-requires : tie.Need-is-selected-requires Inv-loop μ-loop
-is-selected-requires c κs = ((c .before .before .before .before .before .before .before .before .before .pre .0), (c .select .ensures .0), (c .select .ensures .1))
+is-selected-requires c κs =
+    let pre = c .before .before .before .before .before .before .before .before .before .pre in
+    ((pre .0), (c .select .ensures .0), (c .select .ensures .1))
 
 returns : tie.Need-returns Inv-loop μ-loop
-returns c = sym (least-here (fitsAt (c .before .before .before .before .before .before .before .before .before .before .before .args .service) (guideOf (c .before .before .before .before .before .before .before .before .before .before .before .args .book .now)) (c .before .before .before .before .before .before .before .before .before .before .before .args .message .now) (c .before .before .before .before .before .before .before .before .before .before .before .args .at)) (suc (guideOf (c .before .before .before .before .before .before .before .before .before .before .before .args .book .now) .lines)) (c .before .before .before .before .before .before .loop .line) (omega (arith, (c .before .before .before .before .before .loop-test .taken), (c .before .before .before .before .before .before .before .before .lines .ensures .0))) (fits-selected (guideOf (c .before .before .before .before .before .before .before .before .before .before .before .args .book .now)) (c .before .before .before .before .before .before .before .before .before .before .before .args .service) (c .before .before .before .before .before .before .before .before .before .before .before .args .message .now) (c .before .before .before .before .before .before .before .before .before .before .before .args .at) (c .before .before .before .before .before .before .before .before .before .before .before .args .tag) (c .before .before .before .before .before .before .before .before .before .before .before .pre .2 .0) (c .before .before .before .before .before .before .before .before .before .before .before .pre .2 .1) (c .before .before .before .before .before .before .loop .line) _ _ (c .before .before .before .before .tag-of .ensures) (c .before .before .before .if1 .taken) (c .before .is-selected .ensures) ∙ (c .if2 .taken))) ∙ (c .before .before .before .before .before .before .loop .inv .0)
+returns c =
+    let if1 = c .before .before .before .if1 in
+    let tag-of = c .before .before .before .before .tag-of in
+    let loop-test = c .before .before .before .before .before .loop-test in
+    let loop = c .before .before .before .before .before .before .loop in
+    let lines = c .before .before .before .before .before .before .before .before .lines in
+    let pre = c .before .before .before .before .before .before .before .before .before .before .before .pre in
+    let args = c .before .before .before .before .before .before .before .before .before .before .before .args in
+    sym (least-here (fitsAt (args .service) (guideOf (args .book .now)) (args .message .now) (args .at)) (suc (guideOf (args .book .now) .lines)) (loop .line) (omega (arith, (loop-test .taken), (lines .ensures .0))) (fits-selected (guideOf (args .book .now)) (args .service) (args .message .now) (args .at) (args .tag) (pre .2 .0) (pre .2 .1) (loop .line) _ _ (tag-of .ensures) (if1 .taken) (c .before .is-selected .ensures) ∙ (c .if2 .taken))) ∙ (loop .inv .0)
 
 loop-less : tie.Need-loop-less Inv-loop μ-loop
 loop-less c = omega (arith, (c .before .before .before .before .before .loop-test .taken))
 
 loop-again : tie.Need-loop-again Inv-loop μ-loop
-loop-again c = (least-on (fitsAt (c .before .before .before .before .before .before .before .before .before .before .before .args .service) (guideOf (c .before .before .before .before .before .before .before .before .before .before .before .args .book .now)) (c .before .before .before .before .before .before .before .before .before .before .before .args .message .now) (c .before .before .before .before .before .before .before .before .before .before .before .args .at)) (suc (guideOf (c .before .before .before .before .before .before .before .before .before .before .before .args .book .now) .lines)) (c .before .before .before .before .before .before .loop .line) (omega (arith, (c .before .before .before .before .before .loop-test .taken), (c .before .before .before .before .before .before .before .before .lines .ensures .0))) (fits-selected (guideOf (c .before .before .before .before .before .before .before .before .before .before .before .args .book .now)) (c .before .before .before .before .before .before .before .before .before .before .before .args .service) (c .before .before .before .before .before .before .before .before .before .before .before .args .message .now) (c .before .before .before .before .before .before .before .before .before .before .before .args .at) (c .before .before .before .before .before .before .before .before .before .before .before .args .tag) (c .before .before .before .before .before .before .before .before .before .before .before .pre .2 .0) (c .before .before .before .before .before .before .before .before .before .before .before .pre .2 .1) (c .before .before .before .before .before .before .loop .line) _ _ (c .before .before .before .before .tag-of .ensures) (c .before .before .before .if1 .taken) (c .before .is-selected .ensures) ∙ (c .if2 .left)) ∙ (c .before .before .before .before .before .before .loop .inv .0), (c .before .before .select .ensures .0))
+loop-again c =
+    let select = c .before .before .select in
+    let if1 = c .before .before .before .if1 in
+    let tag-of = c .before .before .before .before .tag-of in
+    let loop-test = c .before .before .before .before .before .loop-test in
+    let loop = c .before .before .before .before .before .before .loop in
+    let lines = c .before .before .before .before .before .before .before .before .lines in
+    let pre = c .before .before .before .before .before .before .before .before .before .before .before .pre in
+    let args = c .before .before .before .before .before .before .before .before .before .before .before .args in
+    (least-on (fitsAt (args .service) (guideOf (args .book .now)) (args .message .now) (args .at)) (suc (guideOf (args .book .now) .lines)) (loop .line) (omega (arith, (loop-test .taken), (lines .ensures .0))) (fits-selected (guideOf (args .book .now)) (args .service) (args .message .now) (args .at) (args .tag) (pre .2 .0) (pre .2 .1) (loop .line) _ _ (tag-of .ensures) (if1 .taken) (c .before .is-selected .ensures) ∙ (c .if2 .left)) ∙ (loop .inv .0), (select .ensures .0))
 
 loop-less-2 : tie.Need-loop-less-2 Inv-loop μ-loop
 loop-less-2 c = omega (arith, (c .before .before .loop-test .taken))
 
 loop-again-2 : tie.Need-loop-again-2 Inv-loop μ-loop
-loop-again-2 c = (least-on (fitsAt (c .before .before .before .before .before .before .before .before .args .service) (guideOf (c .before .before .before .before .before .before .before .before .args .book .now)) (c .before .before .before .before .before .before .before .before .args .message .now) (c .before .before .before .before .before .before .before .before .args .at)) (suc (guideOf (c .before .before .before .before .before .before .before .before .args .book .now) .lines)) (c .before .before .before .loop .line) (omega (arith, (c .before .before .loop-test .taken), (c .before .before .before .before .before .lines .ensures .0))) (fits-not (guideOf (c .before .before .before .before .before .before .before .before .args .book .now)) (c .before .before .before .before .before .before .before .before .args .service) (c .before .before .before .before .before .before .before .before .args .message .now) (c .before .before .before .before .before .before .before .before .args .at) (c .before .before .before .before .before .before .before .before .args .tag) (c .before .before .before .before .before .before .before .before .pre .2 .0) (c .before .before .before .before .before .before .before .before .pre .2 .1) (c .before .before .before .loop .line) _ (c .before .tag-of .ensures) (c .if1 .left)) ∙ (c .before .before .before .loop .inv .0), (c .before .before .before .loop .inv .1))
+loop-again-2 c =
+    let loop-test = c .before .before .loop-test in
+    let loop = c .before .before .before .loop in
+    let lines = c .before .before .before .before .before .lines in
+    let pre = c .before .before .before .before .before .before .before .before .pre in
+    let args = c .before .before .before .before .before .before .before .before .args in
+    (least-on (fitsAt (args .service) (guideOf (args .book .now)) (args .message .now) (args .at)) (suc (guideOf (args .book .now) .lines)) (loop .line) (omega (arith, (loop-test .taken), (lines .ensures .0))) (fits-not (guideOf (args .book .now)) (args .service) (args .message .now) (args .at) (args .tag) (pre .2 .0) (pre .2 .1) (loop .line) _ (c .before .tag-of .ensures) (c .if1 .left)) ∙ (loop .inv .0), (loop .inv .1))
 
 returns-2 : tie.Need-returns-2 Inv-loop μ-loop
-returns-2 c = sym (least-none (fitsAt (c .before .before .before .before .before .before .args .service) (guideOf (c .before .before .before .before .before .before .args .book .now)) (c .before .before .before .before .before .before .args .message .now) (c .before .before .before .before .before .before .args .at)) (suc (guideOf (c .before .before .before .before .before .before .args .book .now) .lines)) (c .before .loop .line) (omega (arith, (c .loop-test .left), (c .before .before .before .lines .ensures .0)))) ∙ (c .before .loop .inv .0)
+returns-2 c =
+    let lines = c .before .before .before .lines in
+    let args = c .before .before .before .before .before .before .args in
+    sym (least-none (fitsAt (args .service) (guideOf (args .book .now)) (args .message .now) (args .at)) (suc (guideOf (args .book .now) .lines)) (c .before .loop .line) (omega (arith, (c .loop-test .left), (lines .ensures .0)))) ∙ (c .before .loop .inv .0)
 
 pub find-from-spec : {M : Type 1} → statement M
 find-from-spec =

@@ -7,8 +7,8 @@ use lib.Dec.{eqb}
 use lib.ListN.{getD}
 use borrow.Author.Tests.{eq-eqb, ne-eqb}
 use borrow.Author.Needs.{needs}
-use Rattle.placing.specs.Fitting.{least}
-use Rattle.placing.specs.Kept.{firstOfTag}
+use Rattle.placing.specs.meaning.Fitting.{least}
+use Rattle.placing.specs.method.Kept.{firstOfTag}
 use Rattle.placing.proofs.Finding.{least-none, least-here, least-on}
 use Rattle.placing.proofs.home.first_of_tag.Statement.{statement}
 use Rattle.placing.proofs.home.first_of_tag.Tie as tie
@@ -35,7 +35,11 @@ cast-result : tie.Need-cast-result Inv-loop μ-loop
 cast-result c = search needs
 
 returns : tie.Need-returns Inv-loop μ-loop
-returns c = sym (least-here (has (c .before .before .before .before .args .tags .now) (c .before .before .before .before .args .tag)) (c .before .before .before .before .args .end) (c .before .before .before .loop .line) (c .before .before .loop-test .taken) (eq-eqb _ _ (c .if1 .taken))) ∙ (c .before .before .before .loop .inv)
+returns c =
+    let loop-test = c .before .before .loop-test in
+    let loop = c .before .before .before .loop in
+    let args = c .before .before .before .before .args in
+    sym (least-here (has (args .tags .now) (args .tag)) (args .end) (loop .line) (loop-test .taken) (eq-eqb _ _ (c .if1 .taken))) ∙ (loop .inv)
 
 add-line : tie.Need-add-line Inv-loop μ-loop
 add-line c = search needs
@@ -44,10 +48,16 @@ loop-less : tie.Need-loop-less Inv-loop μ-loop
 loop-less c = search needs
 
 loop-again : tie.Need-loop-again Inv-loop μ-loop
-loop-again c = least-on (has (c .before .before .before .before .args .tags .now) (c .before .before .before .before .args .tag)) (c .before .before .before .before .args .end) (c .before .before .before .loop .line) (c .before .before .loop-test .taken) (ne-eqb _ _ (c .if1 .left)) ∙ (c .before .before .before .loop .inv)
+loop-again c =
+    let loop-test = c .before .before .loop-test in
+    let loop = c .before .before .before .loop in
+    let args = c .before .before .before .before .args in
+    least-on (has (args .tags .now) (args .tag)) (args .end) (loop .line) (loop-test .taken) (ne-eqb _ _ (c .if1 .left)) ∙ (loop .inv)
 
 returns-2 : tie.Need-returns-2 Inv-loop μ-loop
-returns-2 c = sym (least-none (has (c .before .before .args .tags .now) (c .before .before .args .tag)) (c .before .before .args .end) (c .before .loop .line) (c .loop-test .left)) ∙ (c .before .loop .inv)
+returns-2 c =
+    let args = c .before .before .args in
+    sym (least-none (has (args .tags .now) (args .tag)) (args .end) (c .before .loop .line) (c .loop-test .left)) ∙ (c .before .loop .inv)
 
 pub first-of-tag-spec : {M : Type 1} → statement M
 first-of-tag-spec =

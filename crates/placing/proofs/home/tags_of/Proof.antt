@@ -4,8 +4,8 @@ use native.Mathlib.Omega.{arith}
 use mathlib.Core.Path.{_≡_, refl, _∙_}
 use lib.ListN.{length, getD, length-set}
 use borrow.Author.Needs.{needs}
-use Rattle.book.specs.Guide.{guideOf}
-use Rattle.placing.specs.Kept.{homeTag}
+use Rattle.book.specs.meaning.Guide.{guideOf}
+use Rattle.placing.specs.method.Kept.{homeTag}
 use Rattle.placing.proofs.Finding.{end-within, tabled-on}
 use Rattle.placing.proofs.home.tags_of.Statement.{statement}
 use Rattle.placing.proofs.home.tags_of.Tie as tie
@@ -26,19 +26,33 @@ home-tag-requires : tie.Need-home-tag-requires Inv-loop μ-loop
 home-tag-requires c κs = search needs
 
 mul-tags : tie.Need-mul-tags Inv-loop μ-loop
-mul-tags c = omega (arith, (c .before .loop-test .taken), (c .before .before .before .before .pre), end-within (guideOf (c .before .before .before .before .args .book .now)))
+mul-tags c =
+    let pre = c .before .before .before .before .pre in
+    let args = c .before .before .before .before .args in
+    omega (arith, (c .before .loop-test .taken), (pre), end-within (guideOf (args .book .now)))
 
 array-write-tags : tie.Need-array-write-tags Inv-loop μ-loop
-array-write-tags c = omega (arith, (c .before .loop-test .taken), (c .before .before .before .before .pre), end-within (guideOf (c .before .before .before .before .args .book .now)), (c .before .before .loop .inv .0))
+array-write-tags c =
+    let loop = c .before .before .loop in
+    let pre = c .before .before .before .before .pre in
+    let args = c .before .before .before .before .args in
+    omega (arith, (c .before .loop-test .taken), (pre), end-within (guideOf (args .book .now)), (loop .inv .0))
 
 add-line : tie.Need-add-line Inv-loop μ-loop
-add-line c = omega (arith, (c .before .loop-test .taken), (c .before .before .before .before .pre), end-within (guideOf (c .before .before .before .before .args .book .now)))
+add-line c =
+    let pre = c .before .before .before .before .pre in
+    let args = c .before .before .before .before .args in
+    omega (arith, (c .before .loop-test .taken), (pre), end-within (guideOf (args .book .now)))
 
 loop-less : tie.Need-loop-less Inv-loop μ-loop
 loop-less c = omega (arith, (c .before .loop-test .taken))
 
 loop-again : tie.Need-loop-again Inv-loop μ-loop
-loop-again c = (length-set (c .before .before .loop .tags) (c .before .before .loop .line) _ ∙ (c .before .before .loop .inv .0), tabled-on (homeTag (guideOf (c .before .before .before .before .args .book .now))) (c .before .before .loop .tags) (c .before .before .loop .line) _ (omega (arith, (c .before .loop-test .taken), (c .before .before .before .before .pre), end-within (guideOf (c .before .before .before .before .args .book .now)), (c .before .before .loop .inv .0))) (c .home-tag .ensures) (c .before .before .loop .inv .1))
+loop-again c =
+    let loop = c .before .before .loop in
+    let pre = c .before .before .before .before .pre in
+    let args = c .before .before .before .before .args in
+    (length-set (loop .tags) (loop .line) _ ∙ (loop .inv .0), tabled-on (homeTag (guideOf (args .book .now))) (loop .tags) (loop .line) _ (omega (arith, (c .before .loop-test .taken), (pre), end-within (guideOf (args .book .now)), (loop .inv .0))) (c .home-tag .ensures) (loop .inv .1))
 
 returns : tie.Need-returns Inv-loop μ-loop
 returns c = record { ends = (c .before .before .before .pre); same = λ k h. (c .before .loop .inv .1) k (omega (arith, h, (c .loop-test .left))) }

@@ -3,7 +3,8 @@ use Prim.Native.Nat.{_-_}
 use native.Mathlib.Omega.{arith}
 use mathlib.Core.Path.{sym, _∙_}
 use borrow.Author.Needs.{needs}
-use Rattle.placing.proofs.Passing.{found-within, Writing, write-begin, write-on, write-last, write-end, starts-long, homes-long, parents-long}
+use Rattle.reading.proofs.Starts.{found-within}
+use Rattle.placing.proofs.Passing.{Writing, write-begin, write-on, write-last, write-end, starts-long, homes-long, parents-long}
 use Rattle.placing.proofs.passes.write_tree.Statement.{statement}
 use Rattle.placing.proofs.passes.write_tree.Tie as tie
 
@@ -26,7 +27,9 @@ begin-requires : tie.Need-begin-requires Inv-loop μ-loop
 begin-requires c κs = search needs
 
 loop-holds : tie.Need-loop-holds Inv-loop μ-loop
-loop-holds c = write-begin (c .before .before .before .before .before .before .before .before .before .args .service) (c .before .before .before .before .before .before .before .before .before .args .message .now) (c .before .before .before .before .before .before .before .before .before .args .book .now) (c .before .before .before .before .before .before .before .before .before .args .segments) _ _ _ _ _ (c .before .first .ensures) (c .begin .ensures)
+loop-holds c =
+    let args = c .before .before .before .before .before .before .before .before .before .args in
+    write-begin (args .service) (args .message .now) (args .book .now) (args .segments) _ _ _ _ _ (c .before .first .ensures) (c .begin .ensures)
 
 next-segment-requires : tie.Need-next-segment-requires Inv-loop μ-loop
 next-segment-requires c κs = search needs
@@ -35,7 +38,16 @@ enum-known-next : tie.Need-enum-known-next Inv-loop μ-loop
 enum-known-next c = search needs
 
 find-home-requires : tie.Need-find-home-requires Inv-loop μ-loop
-find-home-requires c κs = (found-within (c .before .before .before .before .before .before .before .before .before .before .before .before .before .before .before .before .args .service) (c .before .before .before .before .before .before .before .before .before .before .before .before .before .before .before .before .args .message .now) (c .before .before .before .before .before .before .loop .cursor .at) _ _ (sym (c .before .before .next .given .1) ∙ (c .before .before .before .before .next-segment .ensures)), (c .before .before .before .before .before .before .before .before .before .tags-of .ensures))
+find-home-requires c κs =
+    let args = c .before .before .before .before .before .before .before .before .before .before .before .before .before .before .before .before .args in
+    let loop = c .before .before .before .before .before .before .loop in
+    let next = c .before .before .next in
+    let next-segment = c .before .before .before .before .next-segment in
+    let tags-of = c .before .before .before .before .before .before .before .before .before .tags-of in
+    (found-within (args .service) (args .message .now) (loop .cursor .at) _ _ (sym (next .given .1) ∙ (next-segment .ensures)), (tags-of .ensures))
+
+cast-entry : tie.Need-cast-entry Inv-loop μ-loop
+cast-entry c = search needs
 
 entry-of-requires : tie.Need-entry-of-requires Inv-loop μ-loop
 entry-of-requires c κs = search needs
@@ -47,22 +59,44 @@ put-requires-2 : tie.Need-put-requires-2 Inv-loop μ-loop
 put-requires-2 c κs = search needs
 
 parent-of-requires : tie.Need-parent-of-requires Inv-loop μ-loop
-parent-of-requires c κs = (c .before .before .before .before .before .before .before .before .before .before .before .before .before .before .before .before .before .loop .inv .eight)
+parent-of-requires c κs =
+    let loop = c .before .before .before .before .before .before .before .before .before .before .before .before .before .before .before .before .before .loop in
+    (loop .inv .eight)
 
 put-requires-3 : tie.Need-put-requires-3 Inv-loop μ-loop
 put-requires-3 c κs = search needs
 
 add-place : tie.Need-add-place Inv-loop μ-loop
-add-place c = omega (arith, (c .before .before .before .before .before .before .before .before .before .before .before .before .before .before .before .before .before .before .before .before .loop-test .taken), (c .before .before .before .before .before .before .before .before .before .before .before .before .before .before .before .before .before .before .before .before .before .loop .inv .within), (c .before .before .before .before .before .before .before .before .before .before .before .before .before .before .before .before .before .before .before .before .before .before .before .before .before .before .before .before .before .before .before .fits .segments))
+add-place c =
+    let loop-test = c .before .before .before .before .before .before .before .before .before .before .before .before .before .before .before .before .before .before .before .before .loop-test in
+    let loop = c .before .before .before .before .before .before .before .before .before .before .before .before .before .before .before .before .before .before .before .before .before .loop in
+    let fits = c .before .before .before .before .before .before .before .before .before .before .before .before .before .before .before .before .before .before .before .before .before .before .before .before .before .before .before .before .before .before .before .fits in
+    omega (arith, (loop-test .taken), (loop .inv .within), (fits .segments))
 
 open-instance-requires : tie.Need-open-instance-requires Inv-loop μ-loop
-open-instance-requires c κs = (c .before .before .before .before .before .before .before .before .before .before .before .before .before .before .before .before .before .before .before .before .before .loop .inv .eight)
+open-instance-requires c κs =
+    let loop = c .before .before .before .before .before .before .before .before .before .before .before .before .before .before .before .before .before .before .before .before .before .loop in
+    (loop .inv .eight)
 
 loop-less : tie.Need-loop-less Inv-loop μ-loop
-loop-less c = omega (arith, (c .before .before .before .before .before .before .before .before .before .before .before .before .before .before .before .before .before .before .before .before .before .loop-test .taken))
+loop-less c =
+    let loop-test = c .before .before .before .before .before .before .before .before .before .before .before .before .before .before .before .before .before .before .before .before .before .loop-test in
+    omega (arith, (loop-test .taken))
 
 loop-again : tie.Need-loop-again Inv-loop μ-loop
-loop-again c = write-on (c .before .before .before .before .before .before .before .before .before .before .before .before .before .before .before .before .before .before .before .before .before .before .before .before .before .before .before .before .before .before .before .before .args .service) (c .before .before .before .before .before .before .before .before .before .before .before .before .before .before .before .before .before .before .before .before .before .before .before .before .before .before .before .before .before .before .before .before .args .message .now) (c .before .before .before .before .before .before .before .before .before .before .before .before .before .before .before .before .before .before .before .before .before .before .before .before .before .before .before .before .before .before .before .before .args .book .now) (c .before .before .before .before .before .before .before .before .before .before .before .before .before .before .before .before .before .before .before .before .before .before .before .before .before .before .before .before .before .before .before .before .args .segments) _ _ _ _ _ _ _ _ (c .before .before .before .before .before .before .before .before .before .before .before .before .before .before .before .before .before .before .before .before .before .before .loop .place) (c .before .before .before .before .before .before .before .before .before .before .before .before .before .before .before .before .before .before .before .before .before .before .loop .last) (c .before .before .before .before .before .before .before .before .before .before .before .before .before .before .before .before .before .before .before .before .before .before .loop .inv) _ _ _ _ _ _ _ _ _ (c .before .before .before .before .before .before .before .before .before .before .before .before .before .before .before .before .before .before .before .before .before .loop-test .taken) (sym (c .before .before .before .before .before .before .before .before .before .before .before .before .before .before .before .before .before .before .next .given .1) ∙ (c .before .before .before .before .before .before .before .before .before .before .before .before .before .before .before .before .before .before .before .before .next-segment .ensures)) (c .before .before .before .before .before .before .before .before .before .before .before .before .before .entry-of .ensures) (c .before .before .before .before .before .before .before .before .before .before .before .before .before .before .before .find-home .ensures) (c .before .before .before .before .parent-of .ensures) (c .before .before .before .before .before .before .before .before .before .before .before .before .put .ensures) (c .before .before .before .before .before .before .before .before .put2 .ensures) (c .before .before .before .put3 .ensures) (c .open-instance .ensures .0) (c .open-instance .ensures .1)
+loop-again c =
+    let args = c .before .before .before .before .before .before .before .before .before .before .before .before .before .before .before .before .before .before .before .before .before .before .before .before .before .before .before .before .before .before .before .before .args in
+    let loop = c .before .before .before .before .before .before .before .before .before .before .before .before .before .before .before .before .before .before .before .before .before .before .loop in
+    let loop-test = c .before .before .before .before .before .before .before .before .before .before .before .before .before .before .before .before .before .before .before .before .before .loop-test in
+    let next = c .before .before .before .before .before .before .before .before .before .before .before .before .before .before .before .before .before .before .next in
+    let next-segment = c .before .before .before .before .before .before .before .before .before .before .before .before .before .before .before .before .before .before .before .before .next-segment in
+    let entry-of = c .before .before .before .before .before .before .before .before .before .before .before .before .before .entry-of in
+    let find-home = c .before .before .before .before .before .before .before .before .before .before .before .before .before .before .before .find-home in
+    let parent-of = c .before .before .before .before .parent-of in
+    let put = c .before .before .before .before .before .before .before .before .before .before .before .before .put in
+    let put2 = c .before .before .before .before .before .before .before .before .put2 in
+    let put3 = c .before .before .before .put3 in
+    write-on (args .service) (args .message .now) (args .book .now) (args .segments) _ _ _ _ _ _ _ _ (loop .place) (loop .last) (loop .inv) _ _ _ _ _ _ _ _ _ (loop-test .taken) (sym (next .given .1) ∙ (next-segment .ensures)) (entry-of .ensures) (find-home .ensures) (parent-of .ensures) (put .ensures) (put2 .ensures) (put3 .ensures) (c .open-instance .ensures .0) (c .open-instance .ensures .1)
 
 enum-told : tie.Need-enum-told Inv-loop μ-loop
 enum-told c = search needs
@@ -71,19 +105,32 @@ loop-less-2 : tie.Need-loop-less-2 Inv-loop μ-loop
 loop-less-2 c = omega (arith, (c .before .before .before .loop-test .taken))
 
 loop-again-2 : tie.Need-loop-again-2 Inv-loop μ-loop
-loop-again-2 c = write-last (c .before .before .before .before .before .before .before .before .before .before .before .before .before .before .args .service) (c .before .before .before .before .before .before .before .before .before .before .before .before .before .before .args .message .now) (c .before .before .before .before .before .before .before .before .before .before .before .before .before .before .args .book .now) (c .before .before .before .before .before .before .before .before .before .before .before .before .before .before .args .segments) _ _ _ _ _ _ _ _ (c .before .before .before .before .loop .place) (c .before .before .before .before .loop .last) (c .before .before .before .before .loop .inv) (sym (c .enum-told .given .1) ∙ (c .before .before .next-segment .ensures)) (c .before .before .before .loop-test .taken)
+loop-again-2 c =
+    let args = c .before .before .before .before .before .before .before .before .before .before .before .before .before .before .args in
+    let loop = c .before .before .before .before .loop in
+    let next-segment = c .before .before .next-segment in
+    let loop-test = c .before .before .before .loop-test in
+    write-last (args .service) (args .message .now) (args .book .now) (args .segments) _ _ _ _ _ _ _ _ (loop .place) (loop .last) (loop .inv) (sym (c .enum-told .given .1) ∙ (next-segment .ensures)) (loop-test .taken)
 
 same-length : tie.Need-same-length Inv-loop μ-loop
-same-length c = starts-long (c .before .before .before .before .before .before .before .before .before .before .before .args .service) (c .before .before .before .before .before .before .before .before .before .before .before .args .message .now) (c .before .before .before .before .before .before .before .before .before .before .before .args .book .now) (c .before .before .before .before .before .before .before .before .before .before .before .args .segments) _ _ _ _ _ _ _ _ (c .before .loop .place) (c .before .loop .last) (c .before .loop .inv)
+same-length c =
+    let args = c .before .before .before .before .before .before .before .before .before .before .before .args in
+    starts-long (args .service) (args .message .now) (args .book .now) (args .segments) _ _ _ _ _ _ _ _ (c .before .loop .place) (c .before .loop .last) (c .before .loop .inv)
 
 same-length-2 : tie.Need-same-length-2 Inv-loop μ-loop
-same-length-2 c = homes-long (c .before .before .before .before .before .before .before .before .before .before .before .args .service) (c .before .before .before .before .before .before .before .before .before .before .before .args .message .now) (c .before .before .before .before .before .before .before .before .before .before .before .args .book .now) (c .before .before .before .before .before .before .before .before .before .before .before .args .segments) _ _ _ _ _ _ _ _ (c .before .loop .place) (c .before .loop .last) (c .before .loop .inv)
+same-length-2 c =
+    let args = c .before .before .before .before .before .before .before .before .before .before .before .args in
+    homes-long (args .service) (args .message .now) (args .book .now) (args .segments) _ _ _ _ _ _ _ _ (c .before .loop .place) (c .before .loop .last) (c .before .loop .inv)
 
 same-length-3 : tie.Need-same-length-3 Inv-loop μ-loop
-same-length-3 c = parents-long (c .before .before .before .before .before .before .before .before .before .before .before .args .service) (c .before .before .before .before .before .before .before .before .before .before .before .args .message .now) (c .before .before .before .before .before .before .before .before .before .before .before .args .book .now) (c .before .before .before .before .before .before .before .before .before .before .before .args .segments) _ _ _ _ _ _ _ _ (c .before .loop .place) (c .before .loop .last) (c .before .loop .inv)
+same-length-3 c =
+    let args = c .before .before .before .before .before .before .before .before .before .before .before .args in
+    parents-long (args .service) (args .message .now) (args .book .now) (args .segments) _ _ _ _ _ _ _ _ (c .before .loop .place) (c .before .loop .last) (c .before .loop .inv)
 
 returns : tie.Need-returns Inv-loop μ-loop
-returns c = write-end (c .before .before .before .before .before .before .before .before .before .before .before .args .service) (c .before .before .before .before .before .before .before .before .before .before .before .args .message .now) (c .before .before .before .before .before .before .before .before .before .before .before .args .book .now) (c .before .before .before .before .before .before .before .before .before .before .before .args .segments) _ _ _ _ _ _ _ _ (c .before .loop .place) (c .before .loop .last) (c .before .loop .inv) (c .loop-test .left)
+returns c =
+    let args = c .before .before .before .before .before .before .before .before .before .before .before .args in
+    write-end (args .service) (args .message .now) (args .book .now) (args .segments) _ _ _ _ _ _ _ _ (c .before .loop .place) (c .before .loop .last) (c .before .loop .inv) (c .loop-test .left)
 
 pub write-tree-spec : {M : Type 1} → statement M
 write-tree-spec =
@@ -99,6 +146,7 @@ write-tree-spec =
     next-segment-requires
     enum-known-next
     find-home-requires
+    cast-entry
     entry-of-requires
     put-requires
     put-requires-2

@@ -3,7 +3,7 @@ use mathlib.Core.Path.{_∙_}
 use lib.ListN.{length-set}
 use borrow.Author.Tests.{not-true, not-false}
 use borrow.Author.Needs.{needs}
-use Rattle.placing.specs.Plan.{planIn}
+use Rattle.placing.specs.meaning.Plan.{planIn}
 use Rattle.placing.proofs.Steps.{open-not, open-here, open-too-deep}
 use Rattle.placing.proofs.tree.open_instance.Statement.{statement}
 use Rattle.placing.proofs.tree.open_instance.Tie as tie
@@ -12,7 +12,10 @@ is-trigger-requires : tie.Need-is-trigger-requires
 is-trigger-requires c κs = search needs
 
 returns : tie.Need-returns
-returns c = (open-not (planIn (c .before .before .before .args .book .now)) ((c .before .before .before .args .trail .triggers)) (c .before .before .before .args .home) (c .before .before .before .args .number) _ (c .before .is-trigger .ensures) (not-true _ (c .if1 .taken)), (c .before .before .before .pre))
+returns c =
+    let pre = c .before .before .before .pre in
+    let args = c .before .before .before .args in
+    (open-not (planIn (args .book .now)) (args .trail .triggers) (args .home) (args .number) _ (c .before .is-trigger .ensures) (not-true _ (c .if1 .taken)), (pre))
 
 target-depth-requires : tie.Need-target-depth-requires
 target-depth-requires c κs = search needs
@@ -27,10 +30,18 @@ element-write-opened : tie.Need-element-write-opened
 element-write-opened c = search needs
 
 returns-2 : tie.Need-returns-2
-returns-2 c = (open-here (planIn (c .before .before .before .before .before .args .book .now)) ((c .before .before .before .before .before .args .trail .triggers)) (c .before .before .before .before .before .args .home) (c .before .before .before .before .before .args .number) _ _ (c .before .before .before .is-trigger .ensures) (not-false _ (c .before .before .if1 .left)) (c .before .target-depth .ensures .0), length-set ((c .before .before .before .before .before .args .trail .triggers)) _ _ ∙ (c .before .before .before .before .before .pre))
+returns-2 c =
+    let if1 = c .before .before .if1 in
+    let is-trigger = c .before .before .before .is-trigger in
+    let pre = c .before .before .before .before .before .pre in
+    let args = c .before .before .before .before .before .args in
+    (open-here (planIn (args .book .now)) (args .trail .triggers) (args .home) (args .number) _ _ (is-trigger .ensures) (not-false _ (if1 .left)) (c .before .target-depth .ensures .0), length-set (args .trail .triggers) _ _ ∙ (pre))
 
 returns-3 : tie.Need-returns-3
-returns-3 c = (open-too-deep (planIn (c .before .before .before .before .before .args .book .now)) ((c .before .before .before .before .before .args .trail .triggers)) (c .before .before .before .before .before .args .home) (c .before .before .before .before .before .args .number) _ (c .before .before .before .before .before .pre) (c .before .target-depth .ensures .0) (c .if2 .left), (c .before .before .before .before .before .pre))
+returns-3 c =
+    let pre = c .before .before .before .before .before .pre in
+    let args = c .before .before .before .before .before .args in
+    (open-too-deep (planIn (args .book .now)) (args .trail .triggers) (args .home) (args .number) _ (pre) (c .before .target-depth .ensures .0) (c .if2 .left), (pre))
 
 pub open-instance-spec : {M : Type 1} → statement M
 open-instance-spec =

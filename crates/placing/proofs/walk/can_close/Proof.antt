@@ -1,6 +1,6 @@
 -- `walk::can_close` meets its contract: no line stands behind the last one; else the lines behind are looked at.
 use borrow.Author.Needs.{needs}
-use Rattle.placing.specs.Plan.{planIn}
+use Rattle.placing.specs.meaning.Plan.{planIn}
 use Rattle.placing.proofs.Steps.{close-last, close-is}
 use Rattle.placing.proofs.walk.can_close.Statement.{statement}
 use Rattle.placing.proofs.walk.can_close.Tie as tie
@@ -9,7 +9,9 @@ lines-requires : tie.Need-lines-requires
 lines-requires c κs = search needs
 
 returns : tie.Need-returns
-returns c = close-last (planIn (c .before .before .before .args .book .now)) (c .before .before .before .args .depth) (c .before .before .before .args .level) _ (c .before .lines .ensures .0) (c .if1 .taken)
+returns c =
+    let args = c .before .before .before .args in
+    close-last (planIn (args .book .now)) (args .depth) (args .level) _ (c .before .lines .ensures .0) (c .if1 .taken)
 
 add-is-clear : tie.Need-add-is-clear
 add-is-clear c = search needs
@@ -18,7 +20,9 @@ is-clear-requires : tie.Need-is-clear-requires
 is-clear-requires c κs = search needs
 
 returns-2 : tie.Need-returns-2
-returns-2 c = close-is (planIn (c .before .before .before .before .args .book .now)) (c .before .before .before .before .args .depth) (c .before .before .before .before .args .level) _ (c .is-clear .ensures)
+returns-2 c =
+    let args = c .before .before .before .before .args in
+    close-is (planIn (args .book .now)) (args .depth) (args .level) _ (c .is-clear .ensures)
 
 pub can-close-spec : {M : Type 1} → statement M
 can-close-spec =

@@ -3,8 +3,8 @@ use Prim.Native.Nat.{_+_, _-_}
 use native.Mathlib.Omega.{arith}
 use mathlib.Core.Path.{_≡_, refl, sym, _∙_}
 use borrow.Author.Needs.{needs}
-use Rattle.placing.specs.Plan.{planIn}
-use Rattle.placing.specs.Walking.{isPassed}
+use Rattle.placing.specs.meaning.Plan.{planIn}
+use Rattle.placing.specs.method.Walking.{isPassed}
 use Rattle.placing.proofs.Loops.{passed-end, passed-shallow, passed-wanted, passed-on}
 use Rattle.placing.proofs.walk.is_passed.Statement.{statement}
 use Rattle.placing.proofs.walk.is_passed.Tie as tie
@@ -22,13 +22,23 @@ depth-of-requires : tie.Need-depth-of-requires Inv-loop μ-loop
 depth-of-requires c κs = search needs
 
 returns : tie.Need-returns Inv-loop μ-loop
-returns c = sym (passed-shallow (planIn (c .before .before .before .before .before .args .book .now)) (c .before .before .before .before .before .args .depth) (c .before .before .before .before .before .args .end) (c .before .before .before .loop .line) _ (c .before .before .loop-test .taken) (c .before .depth-of .ensures .0) (c .if1 .taken)) ∙ (c .before .before .before .loop .inv)
+returns c =
+    let loop-test = c .before .before .loop-test in
+    let loop = c .before .before .before .loop in
+    let args = c .before .before .before .before .before .args in
+    sym (passed-shallow (planIn (args .book .now)) (args .depth) (args .end) (loop .line) _ (loop-test .taken) (c .before .depth-of .ensures .0) (c .if1 .taken)) ∙ (loop .inv)
 
 is-wanted-requires : tie.Need-is-wanted-requires Inv-loop μ-loop
 is-wanted-requires c κs = search needs
 
 returns-2 : tie.Need-returns-2 Inv-loop μ-loop
-returns-2 c = sym (passed-wanted (planIn (c .before .before .before .before .before .before .before .args .book .now)) (c .before .before .before .before .before .before .before .args .depth) (c .before .before .before .before .before .before .before .args .end) (c .before .before .before .before .before .loop .line) _ (c .before .before .before .before .loop-test .taken) (c .before .before .before .depth-of .ensures .0) (c .before .before .if1 .left) (sym (c .before .is-wanted .ensures) ∙ (c .if2 .taken))) ∙ (c .before .before .before .before .before .loop .inv)
+returns-2 c =
+    let if1 = c .before .before .if1 in
+    let depth-of = c .before .before .before .depth-of in
+    let loop-test = c .before .before .before .before .loop-test in
+    let loop = c .before .before .before .before .before .loop in
+    let args = c .before .before .before .before .before .before .before .args in
+    sym (passed-wanted (planIn (args .book .now)) (args .depth) (args .end) (loop .line) _ (loop-test .taken) (depth-of .ensures .0) (if1 .left) (sym (c .before .is-wanted .ensures) ∙ (c .if2 .taken))) ∙ (loop .inv)
 
 add-line : tie.Need-add-line Inv-loop μ-loop
 add-line c = omega (arith, (c .before .before .before .before .loop-test .taken))
@@ -37,10 +47,18 @@ loop-less : tie.Need-loop-less Inv-loop μ-loop
 loop-less c = omega (arith, (c .before .before .before .before .loop-test .taken))
 
 loop-again : tie.Need-loop-again Inv-loop μ-loop
-loop-again c = passed-on (planIn (c .before .before .before .before .before .before .before .args .book .now)) (c .before .before .before .before .before .before .before .args .depth) (c .before .before .before .before .before .before .before .args .end) (c .before .before .before .before .before .loop .line) _ (c .before .before .before .before .loop-test .taken) (c .before .before .before .depth-of .ensures .0) (c .before .before .if1 .left) (sym (c .before .is-wanted .ensures) ∙ (c .if2 .left)) ∙ (c .before .before .before .before .before .loop .inv)
+loop-again c =
+    let if1 = c .before .before .if1 in
+    let depth-of = c .before .before .before .depth-of in
+    let loop-test = c .before .before .before .before .loop-test in
+    let loop = c .before .before .before .before .before .loop in
+    let args = c .before .before .before .before .before .before .before .args in
+    passed-on (planIn (args .book .now)) (args .depth) (args .end) (loop .line) _ (loop-test .taken) (depth-of .ensures .0) (if1 .left) (sym (c .before .is-wanted .ensures) ∙ (c .if2 .left)) ∙ (loop .inv)
 
 returns-3 : tie.Need-returns-3 Inv-loop μ-loop
-returns-3 c = sym (passed-end (planIn (c .before .before .before .args .book .now)) (c .before .before .before .args .depth) (c .before .before .before .args .end) (c .before .loop .line) (c .loop-test .left)) ∙ (c .before .loop .inv)
+returns-3 c =
+    let args = c .before .before .before .args in
+    sym (passed-end (planIn (args .book .now)) (args .depth) (args .end) (c .before .loop .line) (c .loop-test .left)) ∙ (c .before .loop .inv)
 
 pub is-passed-spec : {M : Type 1} → statement M
 is-passed-spec =

@@ -1,7 +1,7 @@
 -- `walk::target_of` meets its contract: each return is one way through the definition.
 use native.Mathlib.Omega.{arith}
 use borrow.Author.Needs.{needs}
-use Rattle.placing.specs.Plan.{planIn}
+use Rattle.placing.specs.meaning.Plan.{planIn}
 use Rattle.placing.proofs.Steps.{target-low, target-group, target-self}
 use Rattle.placing.proofs.walk.target_of.Statement.{statement}
 use Rattle.placing.proofs.walk.target_of.Tie as tie
@@ -19,10 +19,16 @@ sub-result : tie.Need-sub-result
 sub-result c = search needs
 
 returns-2 : tie.Need-returns-2
-returns-2 c = (target-group (planIn (c .before .before .before .before .args .book .now)) (c .before .before .before .before .args .line) _ (c .before .before .if1 .left) (c .before .is-group .ensures) (c .if2 .taken), omega arith)
+returns-2 c =
+    let if1 = c .before .before .if1 in
+    let args = c .before .before .before .before .args in
+    (target-group (planIn (args .book .now)) (args .line) _ (if1 .left) (c .before .is-group .ensures) (c .if2 .taken), omega arith)
 
 returns-3 : tie.Need-returns-3
-returns-3 c = (target-self (planIn (c .before .before .before .before .args .book .now)) (c .before .before .before .before .args .line) _ (c .before .before .if1 .left) (c .before .is-group .ensures) (c .if2 .left), omega arith)
+returns-3 c =
+    let if1 = c .before .before .if1 in
+    let args = c .before .before .before .before .args in
+    (target-self (planIn (args .book .now)) (args .line) _ (if1 .left) (c .before .is-group .ensures) (c .if2 .left), omega arith)
 
 pub target-of-spec : {M : Type 1} → statement M
 target-of-spec =

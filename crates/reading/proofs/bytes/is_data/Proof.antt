@@ -1,7 +1,7 @@
 -- `bytes::is_data` meets its contract: each return rewrites the definition by the comparisons that led there.
 use native.Mathlib.Omega.{arith}
 use borrow.Author.Tests.{le-leb, lt-leb}
-use Rattle.reading.specs.Service.{isData}
+use Rattle.reading.specs.meaning.Service.{isData}
 use Rattle.reading.proofs.bytes.is_data.Statement.{statement}
 use Rattle.reading.proofs.bytes.is_data.Tie as tie
 

@@ -1,7 +1,7 @@
 -- `bytes::is_tag_byte` meets its contract: each return rewrites the definition by the comparisons that led there.
 use native.Mathlib.Omega.{arith}
 use borrow.Author.Tests.{le-leb, lt-leb}
-use Rattle.reading.specs.Service.{isTagByte}
+use Rattle.reading.specs.meaning.Service.{isTagByte}
 use Rattle.reading.proofs.bytes.is_tag_byte.Statement.{statement}
 use Rattle.reading.proofs.bytes.is_tag_byte.Tie as tie
 

@@ -1,7 +1,7 @@
 -- `bytes::is_text` meets its contract: each return rewrites the definition by the comparisons that led there.
 use borrow.Author.Needs.{needs}
 use borrow.Author.Tests.{eq-eqb, ne-eqb}
-use Rattle.reading.specs.Machine.{isText}
+use Rattle.reading.specs.method.Machine.{isText}
 use Rattle.reading.proofs.bytes.is_text.Statement.{statement}
 use Rattle.reading.proofs.bytes.is_text.Tie as tie
 

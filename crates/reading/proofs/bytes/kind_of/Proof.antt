@@ -2,7 +2,7 @@
 use mathlib.Core.Path.{_≡_}
 use borrow.Author.Needs.{needs}
 use borrow.Author.Tests.{eq-eqb, ne-eqb}
-use Rattle.reading.specs.Machine.{kindOf}
+use Rattle.reading.specs.method.Machine.{kindOf}
 use Rattle.reading.proofs.bytes.kind_of.Statement.{statement}
 use Rattle.reading.proofs.bytes.kind_of.Tie as tie
 
@@ -21,10 +21,13 @@ returns-3 c = simp (ne-eqb _ _ (c .before .before .before .before .if1 .left), n
 returns-4 : tie.Need-returns-4
 unfolding kindOf
 returns-4 c =
+    let if3 = c .before .before .if3 in
+    let if2 = c .before .before .before .before .if2 in
+    let if1 = c .before .before .before .before .before .before .if1 in
     simp (
-      ne-eqb _ _ (c .before .before .before .before .before .before .if1 .left),
-      ne-eqb _ _ (c .before .before .before .before .if2 .left),
-      ne-eqb _ _ (c .before .before .if3 .left),
+      ne-eqb _ _ (if1 .left),
+      ne-eqb _ _ (if2 .left),
+      ne-eqb _ _ (if3 .left),
       eq-eqb _ _ (c .if4 .taken),
     )
 
@@ -34,11 +37,15 @@ is-data-requires c κs = search needs
 returns-5 : tie.Need-returns-5
 unfolding kindOf
 returns-5 c =
+    let if4 = c .before .before .if4 in
+    let if3 = c .before .before .before .before .if3 in
+    let if2 = c .before .before .before .before .before .before .if2 in
+    let if1 = c .before .before .before .before .before .before .before .before .if1 in
     simp (
-      ne-eqb _ _ (c .before .before .before .before .before .before .before .before .if1 .left),
-      ne-eqb _ _ (c .before .before .before .before .before .before .if2 .left),
-      ne-eqb _ _ (c .before .before .before .before .if3 .left),
-      ne-eqb _ _ (c .before .before .if4 .left),
+      ne-eqb _ _ (if1 .left),
+      ne-eqb _ _ (if2 .left),
+      ne-eqb _ _ (if3 .left),
+      ne-eqb _ _ (if4 .left),
       ← c .before .is-data .ensures,
       c .if5 .taken,
     )
@@ -46,11 +53,15 @@ returns-5 c =
 returns-6 : tie.Need-returns-6
 unfolding kindOf
 returns-6 c =
+    let if4 = c .before .before .if4 in
+    let if3 = c .before .before .before .before .if3 in
+    let if2 = c .before .before .before .before .before .before .if2 in
+    let if1 = c .before .before .before .before .before .before .before .before .if1 in
     simp (
-      ne-eqb _ _ (c .before .before .before .before .before .before .before .before .if1 .left),
-      ne-eqb _ _ (c .before .before .before .before .before .before .if2 .left),
-      ne-eqb _ _ (c .before .before .before .before .if3 .left),
-      ne-eqb _ _ (c .before .before .if4 .left),
+      ne-eqb _ _ (if1 .left),
+      ne-eqb _ _ (if2 .left),
+      ne-eqb _ _ (if3 .left),
+      ne-eqb _ _ (if4 .left),
       ← c .before .is-data .ensures,
       c .if5 .left,
     )

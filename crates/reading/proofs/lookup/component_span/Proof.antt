@@ -11,10 +11,15 @@ empty-at-requires : tie.Need-empty-at-requires
 empty-at-requires c κs = search needs
 
 returns : tie.Need-returns
-returns c = span-element-zero (c .before .before .before .args .service) ((c .before .before .before .args .message .now)) (c .before .before .before .args .at) (c .before .before .before .args .element) (c .before .before .before .args .component) _ (c .if1 .taken) (c .before .empty-at .ensures)
+returns c =
+    let args = c .before .before .before .args in
+    span-element-zero (args .service) (args .message .now) (args .at) (args .element) (args .component) _ (c .if1 .taken) (c .before .empty-at .ensures)
 
 returns-2 : tie.Need-returns-2
-returns-2 c = span-component-zero (c .before .before .before .before .args .service) ((c .before .before .before .before .args .message .now)) (c .before .before .before .before .args .at) (c .before .before .before .before .args .element) (c .before .before .before .before .args .component) _ (c .before .if1 .left) (c .if2 .taken) (c .before .before .empty-at .ensures)
+returns-2 c =
+    let empty-at = c .before .before .empty-at in
+    let args = c .before .before .before .before .args in
+    span-component-zero (args .service) (args .message .now) (args .at) (args .element) (args .component) _ (c .before .if1 .left) (c .if2 .taken) (empty-at .ensures)
 
 segment-end-requires : tie.Need-segment-end-requires
 segment-end-requires c κs = search needs
@@ -32,10 +37,21 @@ enum-told-2 : tie.Need-enum-told-2
 enum-told-2 c = search needs
 
 returns-3 : tie.Need-returns-3
-returns-3 c = span-by-end (c .before .before .before .before .before .before .before .before .args .service) ((c .before .before .before .before .before .before .before .before .args .message .now)) (c .before .before .before .before .before .before .before .before .args .at) (c .before .before .before .before .before .before .before .before .args .element) (c .before .before .before .before .before .before .before .before .args .component) _ (c .before .before .before .before .before .if1 .left) (c .before .before .before .before .if2 .left) _ (sym (c .before .before .before .segment-end .ensures) ∙ (c .before .enum-told .given .1)) (c .seek-from .ensures)
+returns-3 c =
+    let if2 = c .before .before .before .before .if2 in
+    let segment-end = c .before .before .before .segment-end in
+    let if1 = c .before .before .before .before .before .if1 in
+    let args = c .before .before .before .before .before .before .before .before .args in
+    span-by-end (args .service) (args .message .now) (args .at) (args .element) (args .component) _ (if1 .left) (if2 .left) _ (sym (segment-end .ensures) ∙ (c .before .enum-told .given .1)) (c .seek-from .ensures)
 
 returns-4 : tie.Need-returns-4
-returns-4 c = span-by-end (c .before .before .before .before .before .before .before .args .service) ((c .before .before .before .before .before .before .before .args .message .now)) (c .before .before .before .before .before .before .before .args .at) (c .before .before .before .before .before .before .before .args .element) (c .before .before .before .before .before .before .before .args .component) _ (c .before .before .before .before .if1 .left) (c .before .before .before .if2 .left) _ (sym (c .before .before .segment-end .ensures) ∙ (c .enum-told2 .given .1)) (c .before .before .before .before .before .empty-at .ensures)
+returns-4 c =
+    let if2 = c .before .before .before .if2 in
+    let segment-end = c .before .before .segment-end in
+    let if1 = c .before .before .before .before .if1 in
+    let empty-at = c .before .before .before .before .before .empty-at in
+    let args = c .before .before .before .before .before .before .before .args in
+    span-by-end (args .service) (args .message .now) (args .at) (args .element) (args .component) _ (if1 .left) (if2 .left) _ (sym (segment-end .ensures) ∙ (c .enum-told2 .given .1)) (empty-at .ensures)
 
 pub component-span-spec : {M : Type 1} → statement M
 component-span-spec =

@@ -10,13 +10,19 @@ component-span-requires : tie.Need-component-span-requires
 component-span-requires c κs = search needs
 
 sub-result : tie.Need-sub-result
-sub-result c = rw (c .component-span .ensures) (span-inside (c .before .before .args .service) ((c .before .before .args .message .now)) (c .before .before .args .at) (c .before .before .args .element) (c .before .before .args .component) .ordered)
+sub-result c =
+    let args = c .before .before .args in
+    rw (c .component-span .ensures) (span-inside (args .service) (args .message .now) (args .at) (args .element) (args .component) .ordered)
 
 part-result-start : tie.Need-part-result-start
-part-result-start c = rw (c .component-span .ensures) (span-inside (c .before .before .args .service) ((c .before .before .args .message .now)) (c .before .before .args .at) (c .before .before .args .element) (c .before .before .args .component) .ordered)
+part-result-start c =
+    let args = c .before .before .args in
+    rw (c .component-span .ensures) (span-inside (args .service) (args .message .now) (args .at) (args .element) (args .component) .ordered)
 
 part-result-end : tie.Need-part-result-end
-part-result-end c = rw (c .component-span .ensures) (span-inside (c .before .before .args .service) ((c .before .before .args .message .now)) (c .before .before .args .at) (c .before .before .args .element) (c .before .before .args .component) .within)
+part-result-end c =
+    let args = c .before .before .args in
+    rw (c .component-span .ensures) (span-inside (args .service) (args .message .now) (args .at) (args .element) (args .component) .within)
 
 returns : tie.Need-returns
 returns c = rw (← (c .before .component-span .ensures)) (record { memory = refl; place = omega arith; bytes = refl })

@@ -4,7 +4,7 @@ use Prim.Native.Nat.{_-_}
 use native.Mathlib.Omega.{arith}
 use mathlib.Core.Path.{refl, sym, _∙_}
 use lib.ListN.{length}
-use Rattle.reading.specs.Machine.{seek}
+use Rattle.reading.specs.method.Machine.{seek}
 use Rattle.reading.proofs.Seeking.{Seeking, seeking-begin, seek-released, seek-component, seek-element, seek-release, seek-plain, seek-other, seek-text, seek-found, seek-absent, seeking-out}
 use borrow.Author.Needs.{needs}
 use Rattle.reading.proofs.lookup.seek_from.Statement.{statement}
@@ -29,7 +29,11 @@ loop-less : tie.Need-loop-less Inv-loop μ-loop
 loop-less c = omega (arith, (c .before .before .loop-test .taken))
 
 loop-again : tie.Need-loop-again Inv-loop μ-loop
-loop-again c = seek-released (c .before .before .before .before .before .args .service) (c .before .before .before .before .before .args .message .now) (c .before .before .before .before .before .args .from) (c .before .before .before .before .before .args .element) (c .before .before .before .before .before .args .component) (c .before .before .before .loop .elements) (c .before .before .before .loop .components) (c .before .before .before .loop .start) (c .before .before .before .loop .position) _ (c .before .before .loop-test .taken) refl (c .before .before .before .loop .released) (c .if1 .taken) (c .before .before .before .loop .inv)
+loop-again c =
+    let loop-test = c .before .before .loop-test in
+    let loop = c .before .before .before .loop in
+    let args = c .before .before .before .before .before .args in
+    seek-released (args .service) (args .message .now) (args .from) (args .element) (args .component) (loop .elements) (loop .components) (loop .start) (loop .position) _ (loop-test .taken) refl (loop .released) (c .if1 .taken) (loop .inv)
 
 must-release-requires : tie.Need-must-release-requires Inv-loop μ-loop
 must-release-requires c κs = search needs
@@ -44,16 +48,35 @@ is-here-requires : tie.Need-is-here-requires Inv-loop μ-loop
 is-here-requires c κs = search needs
 
 returns : tie.Need-returns Inv-loop μ-loop
-returns c = seek-found (c .before .before .before .before .before .before .before .before .before .before .before .before .args .service) (c .before .before .before .before .before .before .before .before .before .before .before .before .args .message .now) (c .before .before .before .before .before .before .before .before .before .before .before .before .args .from) (c .before .before .before .before .before .before .before .before .before .before .before .before .args .element) (c .before .before .before .before .before .before .before .before .before .before .before .before .args .component) (c .before .before .before .before .before .before .before .before .before .before .loop .elements) (c .before .before .before .before .before .before .before .before .before .before .loop .components) (c .before .before .before .before .before .before .before .before .before .before .loop .start) (c .before .before .before .before .before .before .before .before .before .before .loop .position) _ (c .before .before .before .before .before .before .before .before .before .loop-test .taken) (c .before .before .before .before .kind-of .ensures) (c .before .before .before .before .before .before .before .before .before .before .loop .released) (c .before .before .before .before .before .before .before .if1 .left) (c .before .before .before .before .before .before .before .before .before .before .loop .inv) _ (c .before .before .enum-told .given .1) refl (sym (c .before .is-here .ensures) ∙ (c .if3 .taken))
+returns c =
+    let enum-told = c .before .before .enum-told in
+    let kind-of = c .before .before .before .before .kind-of in
+    let if1 = c .before .before .before .before .before .before .before .if1 in
+    let loop-test = c .before .before .before .before .before .before .before .before .before .loop-test in
+    let loop = c .before .before .before .before .before .before .before .before .before .before .loop in
+    let args = c .before .before .before .before .before .before .before .before .before .before .before .before .args in
+    seek-found (args .service) (args .message .now) (args .from) (args .element) (args .component) (loop .elements) (loop .components) (loop .start) (loop .position) _ (loop-test .taken) (kind-of .ensures) (loop .released) (if1 .left) (loop .inv) _ (enum-told .given .1) refl (sym (c .before .is-here .ensures) ∙ (c .if3 .taken))
 
 add-components : tie.Need-add-components Inv-loop μ-loop
-add-components c = omega (arith, (c .before .before .before .before .before .before .before .before .before .loop-test .taken), (c .before .before .before .before .before .before .before .before .before .before .loop .inv .kept .component-few))
+add-components c =
+    let loop-test = c .before .before .before .before .before .before .before .before .before .loop-test in
+    let loop = c .before .before .before .before .before .before .before .before .before .before .loop in
+    omega (arith, (loop-test .taken), (loop .inv .kept .component-few))
 
 loop-less-2 : tie.Need-loop-less-2 Inv-loop μ-loop
-loop-less-2 c = omega (arith, (c .before .before .before .before .before .before .before .before .before .loop-test .taken))
+loop-less-2 c =
+    let loop-test = c .before .before .before .before .before .before .before .before .before .loop-test in
+    omega (arith, (loop-test .taken))
 
 loop-again-2 : tie.Need-loop-again-2 Inv-loop μ-loop
-loop-again-2 c = seek-component (c .before .before .before .before .before .before .before .before .before .before .before .before .args .service) (c .before .before .before .before .before .before .before .before .before .before .before .before .args .message .now) (c .before .before .before .before .before .before .before .before .before .before .before .before .args .from) (c .before .before .before .before .before .before .before .before .before .before .before .before .args .element) (c .before .before .before .before .before .before .before .before .before .before .before .before .args .component) (c .before .before .before .before .before .before .before .before .before .before .loop .elements) (c .before .before .before .before .before .before .before .before .before .before .loop .components) (c .before .before .before .before .before .before .before .before .before .before .loop .start) (c .before .before .before .before .before .before .before .before .before .before .loop .position) _ (c .before .before .before .before .before .before .before .before .before .loop-test .taken) (c .before .before .before .before .kind-of .ensures) (c .before .before .before .before .before .before .before .before .before .before .loop .released) (c .before .before .before .before .before .before .before .if1 .left) (c .before .before .before .before .before .before .before .before .before .before .loop .inv) (c .before .before .enum-told .given .1) (sym (c .before .is-here .ensures) ∙ (c .if3 .left))
+loop-again-2 c =
+    let enum-told = c .before .before .enum-told in
+    let kind-of = c .before .before .before .before .kind-of in
+    let if1 = c .before .before .before .before .before .before .before .if1 in
+    let loop-test = c .before .before .before .before .before .before .before .before .before .loop-test in
+    let loop = c .before .before .before .before .before .before .before .before .before .before .loop in
+    let args = c .before .before .before .before .before .before .before .before .before .before .before .before .args in
+    seek-component (args .service) (args .message .now) (args .from) (args .element) (args .component) (loop .elements) (loop .components) (loop .start) (loop .position) _ (loop-test .taken) (kind-of .ensures) (loop .released) (if1 .left) (loop .inv) (enum-told .given .1) (sym (c .before .is-here .ensures) ∙ (c .if3 .left))
 
 enum-told-2 : tie.Need-enum-told-2 Inv-loop μ-loop
 enum-told-2 c = search needs
@@ -62,16 +85,35 @@ is-here-requires-2 : tie.Need-is-here-requires-2 Inv-loop μ-loop
 is-here-requires-2 c κs = search needs
 
 returns-2 : tie.Need-returns-2 Inv-loop μ-loop
-returns-2 c = seek-found (c .before .before .before .before .before .before .before .before .before .before .before .before .args .service) (c .before .before .before .before .before .before .before .before .before .before .before .before .args .message .now) (c .before .before .before .before .before .before .before .before .before .before .before .before .args .from) (c .before .before .before .before .before .before .before .before .before .before .before .before .args .element) (c .before .before .before .before .before .before .before .before .before .before .before .before .args .component) (c .before .before .before .before .before .before .before .before .before .before .loop .elements) (c .before .before .before .before .before .before .before .before .before .before .loop .components) (c .before .before .before .before .before .before .before .before .before .before .loop .start) (c .before .before .before .before .before .before .before .before .before .before .loop .position) _ (c .before .before .before .before .before .before .before .before .before .loop-test .taken) (c .before .before .before .before .kind-of .ensures) (c .before .before .before .before .before .before .before .before .before .before .loop .released) (c .before .before .before .before .before .before .before .if1 .left) (c .before .before .before .before .before .before .before .before .before .before .loop .inv) _ (c .before .before .enum-told2 .given .1) refl (sym (c .before .is-here2 .ensures) ∙ (c .if4 .taken))
+returns-2 c =
+    let enum-told2 = c .before .before .enum-told2 in
+    let kind-of = c .before .before .before .before .kind-of in
+    let if1 = c .before .before .before .before .before .before .before .if1 in
+    let loop-test = c .before .before .before .before .before .before .before .before .before .loop-test in
+    let loop = c .before .before .before .before .before .before .before .before .before .before .loop in
+    let args = c .before .before .before .before .before .before .before .before .before .before .before .before .args in
+    seek-found (args .service) (args .message .now) (args .from) (args .element) (args .component) (loop .elements) (loop .components) (loop .start) (loop .position) _ (loop-test .taken) (kind-of .ensures) (loop .released) (if1 .left) (loop .inv) _ (enum-told2 .given .1) refl (sym (c .before .is-here2 .ensures) ∙ (c .if4 .taken))
 
 add-elements : tie.Need-add-elements Inv-loop μ-loop
-add-elements c = omega (arith, (c .before .before .before .before .before .before .before .before .before .loop-test .taken), (c .before .before .before .before .before .before .before .before .before .before .loop .inv .kept .element-few))
+add-elements c =
+    let loop-test = c .before .before .before .before .before .before .before .before .before .loop-test in
+    let loop = c .before .before .before .before .before .before .before .before .before .before .loop in
+    omega (arith, (loop-test .taken), (loop .inv .kept .element-few))
 
 loop-less-3 : tie.Need-loop-less-3 Inv-loop μ-loop
-loop-less-3 c = omega (arith, (c .before .before .before .before .before .before .before .before .before .loop-test .taken))
+loop-less-3 c =
+    let loop-test = c .before .before .before .before .before .before .before .before .before .loop-test in
+    omega (arith, (loop-test .taken))
 
 loop-again-3 : tie.Need-loop-again-3 Inv-loop μ-loop
-loop-again-3 c = seek-element (c .before .before .before .before .before .before .before .before .before .before .before .before .args .service) (c .before .before .before .before .before .before .before .before .before .before .before .before .args .message .now) (c .before .before .before .before .before .before .before .before .before .before .before .before .args .from) (c .before .before .before .before .before .before .before .before .before .before .before .before .args .element) (c .before .before .before .before .before .before .before .before .before .before .before .before .args .component) (c .before .before .before .before .before .before .before .before .before .before .loop .elements) (c .before .before .before .before .before .before .before .before .before .before .loop .components) (c .before .before .before .before .before .before .before .before .before .before .loop .start) (c .before .before .before .before .before .before .before .before .before .before .loop .position) _ (c .before .before .before .before .before .before .before .before .before .loop-test .taken) (c .before .before .before .before .kind-of .ensures) (c .before .before .before .before .before .before .before .before .before .before .loop .released) (c .before .before .before .before .before .before .before .if1 .left) (c .before .before .before .before .before .before .before .before .before .before .loop .inv) (c .before .before .enum-told2 .given .1) (sym (c .before .is-here2 .ensures) ∙ (c .if4 .left))
+loop-again-3 c =
+    let enum-told2 = c .before .before .enum-told2 in
+    let kind-of = c .before .before .before .before .kind-of in
+    let if1 = c .before .before .before .before .before .before .before .if1 in
+    let loop-test = c .before .before .before .before .before .before .before .before .before .loop-test in
+    let loop = c .before .before .before .before .before .before .before .before .before .before .loop in
+    let args = c .before .before .before .before .before .before .before .before .before .before .before .before .args in
+    seek-element (args .service) (args .message .now) (args .from) (args .element) (args .component) (loop .elements) (loop .components) (loop .start) (loop .position) _ (loop-test .taken) (kind-of .ensures) (loop .released) (if1 .left) (loop .inv) (enum-told2 .given .1) (sym (c .before .is-here2 .ensures) ∙ (c .if4 .left))
 
 enum-told-3 : tie.Need-enum-told-3 Inv-loop μ-loop
 enum-told-3 c = search needs
@@ -80,13 +122,28 @@ is-here-requires-3 : tie.Need-is-here-requires-3 Inv-loop μ-loop
 is-here-requires-3 c κs = search needs
 
 returns-3 : tie.Need-returns-3 Inv-loop μ-loop
-returns-3 c = seek-found (c .before .before .before .before .before .before .before .before .before .before .before .before .args .service) (c .before .before .before .before .before .before .before .before .before .before .before .before .args .message .now) (c .before .before .before .before .before .before .before .before .before .before .before .before .args .from) (c .before .before .before .before .before .before .before .before .before .before .before .before .args .element) (c .before .before .before .before .before .before .before .before .before .before .before .before .args .component) (c .before .before .before .before .before .before .before .before .before .before .loop .elements) (c .before .before .before .before .before .before .before .before .before .before .loop .components) (c .before .before .before .before .before .before .before .before .before .before .loop .start) (c .before .before .before .before .before .before .before .before .before .before .loop .position) _ (c .before .before .before .before .before .before .before .before .before .loop-test .taken) (c .before .before .before .before .kind-of .ensures) (c .before .before .before .before .before .before .before .before .before .before .loop .released) (c .before .before .before .before .before .before .before .if1 .left) (c .before .before .before .before .before .before .before .before .before .before .loop .inv) _ (c .before .before .enum-told3 .given .1) refl (sym (c .before .is-here3 .ensures) ∙ (c .if5 .taken))
+returns-3 c =
+    let enum-told3 = c .before .before .enum-told3 in
+    let kind-of = c .before .before .before .before .kind-of in
+    let if1 = c .before .before .before .before .before .before .before .if1 in
+    let loop-test = c .before .before .before .before .before .before .before .before .before .loop-test in
+    let loop = c .before .before .before .before .before .before .before .before .before .before .loop in
+    let args = c .before .before .before .before .before .before .before .before .before .before .before .before .args in
+    seek-found (args .service) (args .message .now) (args .from) (args .element) (args .component) (loop .elements) (loop .components) (loop .start) (loop .position) _ (loop-test .taken) (kind-of .ensures) (loop .released) (if1 .left) (loop .inv) _ (enum-told3 .given .1) refl (sym (c .before .is-here3 .ensures) ∙ (c .if5 .taken))
 
 empty-at-requires : tie.Need-empty-at-requires Inv-loop μ-loop
 empty-at-requires c κs = search needs
 
 returns-4 : tie.Need-returns-4 Inv-loop μ-loop
-returns-4 c = seek-absent (c .before .before .before .before .before .before .before .before .before .before .before .before .before .args .service) (c .before .before .before .before .before .before .before .before .before .before .before .before .before .args .message .now) (c .before .before .before .before .before .before .before .before .before .before .before .before .before .args .from) (c .before .before .before .before .before .before .before .before .before .before .before .before .before .args .element) (c .before .before .before .before .before .before .before .before .before .before .before .before .before .args .component) (c .before .before .before .before .before .before .before .before .before .before .before .loop .elements) (c .before .before .before .before .before .before .before .before .before .before .before .loop .components) (c .before .before .before .before .before .before .before .before .before .before .before .loop .start) (c .before .before .before .before .before .before .before .before .before .before .before .loop .position) _ (c .before .before .before .before .before .before .before .before .before .before .loop-test .taken) (c .before .before .before .before .before .kind-of .ensures) (c .before .before .before .before .before .before .before .before .before .before .before .loop .released) (c .before .before .before .before .before .before .before .before .if1 .left) (c .before .before .before .before .before .before .before .before .before .before .before .loop .inv) _ (c .before .before .before .enum-told3 .given .1) (sym (c .before .before .is-here3 .ensures) ∙ (c .before .if5 .left)) (c .empty-at .ensures)
+returns-4 c =
+    let is-here3 = c .before .before .is-here3 in
+    let enum-told3 = c .before .before .before .enum-told3 in
+    let kind-of = c .before .before .before .before .before .kind-of in
+    let if1 = c .before .before .before .before .before .before .before .before .if1 in
+    let loop-test = c .before .before .before .before .before .before .before .before .before .before .loop-test in
+    let loop = c .before .before .before .before .before .before .before .before .before .before .before .loop in
+    let args = c .before .before .before .before .before .before .before .before .before .before .before .before .before .args in
+    seek-absent (args .service) (args .message .now) (args .from) (args .element) (args .component) (loop .elements) (loop .components) (loop .start) (loop .position) _ (loop-test .taken) (kind-of .ensures) (loop .released) (if1 .left) (loop .inv) _ (enum-told3 .given .1) (sym (is-here3 .ensures) ∙ (c .before .if5 .left)) (c .empty-at .ensures)
 
 enum-told-4 : tie.Need-enum-told-4 Inv-loop μ-loop
 enum-told-4 c = search needs
@@ -95,7 +152,13 @@ loop-less-4 : tie.Need-loop-less-4 Inv-loop μ-loop
 loop-less-4 c = omega (arith, (c .before .before .before .before .before .before .before .loop-test .taken))
 
 loop-again-4 : tie.Need-loop-again-4 Inv-loop μ-loop
-loop-again-4 c = seek-release (c .before .before .before .before .before .before .before .before .before .before .args .service) (c .before .before .before .before .before .before .before .before .before .before .args .message .now) (c .before .before .before .before .before .before .before .before .before .before .args .from) (c .before .before .before .before .before .before .before .before .before .before .args .element) (c .before .before .before .before .before .before .before .before .before .before .args .component) (c .before .before .before .before .before .before .before .before .loop .elements) (c .before .before .before .before .before .before .before .before .loop .components) (c .before .before .before .before .before .before .before .before .loop .start) (c .before .before .before .before .before .before .before .before .loop .position) _ (c .before .before .before .before .before .before .before .loop-test .taken) (c .before .before .kind-of .ensures) (c .before .before .before .before .before .before .before .before .loop .released) (c .before .before .before .before .before .if1 .left) (c .before .before .before .before .before .before .before .before .loop .inv) (c .enum-told4 .given .1)
+loop-again-4 c =
+    let kind-of = c .before .before .kind-of in
+    let if1 = c .before .before .before .before .before .if1 in
+    let loop-test = c .before .before .before .before .before .before .before .loop-test in
+    let loop = c .before .before .before .before .before .before .before .before .loop in
+    let args = c .before .before .before .before .before .before .before .before .before .before .args in
+    seek-release (args .service) (args .message .now) (args .from) (args .element) (args .component) (loop .elements) (loop .components) (loop .start) (loop .position) _ (loop-test .taken) (kind-of .ensures) (loop .released) (if1 .left) (loop .inv) (c .enum-told4 .given .1)
 
 enum-told-5 : tie.Need-enum-told-5 Inv-loop μ-loop
 enum-told-5 c = search needs
@@ -104,7 +167,13 @@ loop-less-5 : tie.Need-loop-less-5 Inv-loop μ-loop
 loop-less-5 c = omega (arith, (c .before .before .before .before .before .before .before .loop-test .taken))
 
 loop-again-5 : tie.Need-loop-again-5 Inv-loop μ-loop
-loop-again-5 c = seek-plain (c .before .before .before .before .before .before .before .before .before .before .args .service) (c .before .before .before .before .before .before .before .before .before .before .args .message .now) (c .before .before .before .before .before .before .before .before .before .before .args .from) (c .before .before .before .before .before .before .before .before .before .before .args .element) (c .before .before .before .before .before .before .before .before .before .before .args .component) (c .before .before .before .before .before .before .before .before .loop .elements) (c .before .before .before .before .before .before .before .before .loop .components) (c .before .before .before .before .before .before .before .before .loop .start) (c .before .before .before .before .before .before .before .before .loop .position) _ (c .before .before .before .before .before .before .before .loop-test .taken) (c .before .before .kind-of .ensures) (c .before .before .before .before .before .before .before .before .loop .released) (c .before .before .before .before .before .if1 .left) (c .before .before .before .before .before .before .before .before .loop .inv) (c .enum-told5 .given .1)
+loop-again-5 c =
+    let kind-of = c .before .before .kind-of in
+    let if1 = c .before .before .before .before .before .if1 in
+    let loop-test = c .before .before .before .before .before .before .before .loop-test in
+    let loop = c .before .before .before .before .before .before .before .before .loop in
+    let args = c .before .before .before .before .before .before .before .before .before .before .args in
+    seek-plain (args .service) (args .message .now) (args .from) (args .element) (args .component) (loop .elements) (loop .components) (loop .start) (loop .position) _ (loop-test .taken) (kind-of .ensures) (loop .released) (if1 .left) (loop .inv) (c .enum-told5 .given .1)
 
 enum-told-6 : tie.Need-enum-told-6 Inv-loop μ-loop
 enum-told-6 c = search needs
@@ -113,19 +182,33 @@ loop-less-6 : tie.Need-loop-less-6 Inv-loop μ-loop
 loop-less-6 c = omega (arith, (c .before .before .before .before .before .before .before .loop-test .taken))
 
 loop-again-6 : tie.Need-loop-again-6 Inv-loop μ-loop
-loop-again-6 c = seek-other (c .before .before .before .before .before .before .before .before .before .before .args .service) (c .before .before .before .before .before .before .before .before .before .before .args .message .now) (c .before .before .before .before .before .before .before .before .before .before .args .from) (c .before .before .before .before .before .before .before .before .before .before .args .element) (c .before .before .before .before .before .before .before .before .before .before .args .component) (c .before .before .before .before .before .before .before .before .loop .elements) (c .before .before .before .before .before .before .before .before .loop .components) (c .before .before .before .before .before .before .before .before .loop .start) (c .before .before .before .before .before .before .before .before .loop .position) _ (c .before .before .before .before .before .before .before .loop-test .taken) (c .before .before .kind-of .ensures) (c .before .before .before .before .before .before .before .before .loop .released) (c .before .before .before .before .before .if1 .left) (c .before .before .before .before .before .before .before .before .loop .inv) (c .enum-told6 .given .1)
+loop-again-6 c =
+    let kind-of = c .before .before .kind-of in
+    let if1 = c .before .before .before .before .before .if1 in
+    let loop-test = c .before .before .before .before .before .before .before .loop-test in
+    let loop = c .before .before .before .before .before .before .before .before .loop in
+    let args = c .before .before .before .before .before .before .before .before .before .before .args in
+    seek-other (args .service) (args .message .now) (args .from) (args .element) (args .component) (loop .elements) (loop .components) (loop .start) (loop .position) _ (loop-test .taken) (kind-of .ensures) (loop .released) (if1 .left) (loop .inv) (c .enum-told6 .given .1)
 
 loop-less-7 : tie.Need-loop-less-7 Inv-loop μ-loop
 loop-less-7 c = omega (arith, (c .before .before .before .before .loop-test .taken))
 
 loop-again-7 : tie.Need-loop-again-7 Inv-loop μ-loop
-loop-again-7 c = seek-text (c .before .before .before .before .before .before .before .args .service) (c .before .before .before .before .before .before .before .args .message .now) (c .before .before .before .before .before .before .before .args .from) (c .before .before .before .before .before .before .before .args .element) (c .before .before .before .before .before .before .before .args .component) (c .before .before .before .before .before .loop .elements) (c .before .before .before .before .before .loop .components) (c .before .before .before .before .before .loop .start) (c .before .before .before .before .before .loop .position) _ (c .before .before .before .before .loop-test .taken) refl (c .before .before .before .before .before .loop .released) (c .before .before .if1 .left) (c .before .before .before .before .before .loop .inv) (sym (c .before .must-release .ensures) ∙ (c .if2 .left))
+loop-again-7 c =
+    let if1 = c .before .before .if1 in
+    let loop-test = c .before .before .before .before .loop-test in
+    let loop = c .before .before .before .before .before .loop in
+    let args = c .before .before .before .before .before .before .before .args in
+    seek-text (args .service) (args .message .now) (args .from) (args .element) (args .component) (loop .elements) (loop .components) (loop .start) (loop .position) _ (loop-test .taken) refl (loop .released) (if1 .left) (loop .inv) (sym (c .before .must-release .ensures) ∙ (c .if2 .left))
 
 empty-at-requires-2 : tie.Need-empty-at-requires-2 Inv-loop μ-loop
 empty-at-requires-2 c κs = search needs
 
 returns-5 : tie.Need-returns-5 Inv-loop μ-loop
-returns-5 c = (c .empty-at2 .ensures) ∙ seeking-out (c .before .before .before .before .args .service) (c .before .before .before .before .args .message .now) (c .before .before .before .before .args .from) (c .before .before .before .before .args .element) (c .before .before .before .before .args .component) _ (c .before .before .loop .position) (c .before .loop-test .left) (c .before .before .loop .inv)
+returns-5 c =
+    let loop = c .before .before .loop in
+    let args = c .before .before .before .before .args in
+    (c .empty-at2 .ensures) ∙ seeking-out (args .service) (args .message .now) (args .from) (args .element) (args .component) _ (loop .position) (c .before .loop-test .left) (loop .inv)
 
 pub seek-from-spec : {M : Type 1} → statement M
 seek-from-spec =

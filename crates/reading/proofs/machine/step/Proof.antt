@@ -1,7 +1,7 @@
 -- `machine::step` meets its contract: in each arm the state is known, and what is called there is what the definition calls.
 use mathlib.Core.Path.{_∙_, ap}
 use borrow.Author.Needs.{needs}
-use Rattle.reading.specs.Machine.{afterTagged, afterInside, afterReleased}
+use Rattle.reading.specs.method.Machine.{afterTagged, afterInside, afterReleased}
 use Rattle.reading.proofs.machine.step.Statement.{statement}
 use Rattle.reading.proofs.machine.step.Tie as tie
 

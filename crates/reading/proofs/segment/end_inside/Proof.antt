@@ -31,7 +31,11 @@ loop-less : tie.Need-loop-less Inv-loop μ-loop
 loop-less c = omega (arith, (c .before .before .before .loop-test .taken))
 
 loop-again : tie.Need-loop-again Inv-loop μ-loop
-loop-again c = ending-text (c .before .before .before .before .before .before .args .service) (c .before .before .before .before .before .before .args .message .now) (c .before .before .before .before .before .before .args .from) (c .before .before .before .before .loop .at) (c .before .before .before .loop-test .taken) (c .before .before .before .before .loop .inv) (sym (c .before .is-text .ensures) ∙ (c .if1 .taken))
+loop-again c =
+    let loop-test = c .before .before .before .loop-test in
+    let loop = c .before .before .before .before .loop in
+    let args = c .before .before .before .before .before .before .args in
+    ending-text (args .service) (args .message .now) (args .from) (loop .at) (loop-test .taken) (loop .inv) (sym (c .before .is-text .ensures) ∙ (c .if1 .taken))
 
 kind-of-requires : tie.Need-kind-of-requires Inv-loop μ-loop
 kind-of-requires c κs = search needs
@@ -46,7 +50,12 @@ loop-less-2 : tie.Need-loop-less-2 Inv-loop μ-loop
 loop-less-2 c = omega (arith, (c .before .before .before .before .before .before .loop-test .taken))
 
 loop-again-2 : tie.Need-loop-again-2 Inv-loop μ-loop
-loop-again-2 c = ending-on (c .before .before .before .before .before .before .before .before .before .args .service) (c .before .before .before .before .before .before .before .before .before .args .message .now) (c .before .before .before .before .before .before .before .before .before .args .from) (c .before .before .before .before .before .before .before .loop .at) (c .before .before .before .before .before .before .loop-test .taken) (c .before .before .before .before .before .before .before .loop .inv) _ (c .before .before .kind-of .ensures) _ (c .enum-told .given .1) refl
+loop-again-2 c =
+    let kind-of = c .before .before .kind-of in
+    let loop-test = c .before .before .before .before .before .before .loop-test in
+    let loop = c .before .before .before .before .before .before .before .loop in
+    let args = c .before .before .before .before .before .before .before .before .before .args in
+    ending-on (args .service) (args .message .now) (args .from) (loop .at) (loop-test .taken) (loop .inv) _ (kind-of .ensures) _ (c .enum-told .given .1) refl
 
 enum-told-2 : tie.Need-enum-told-2 Inv-loop μ-loop
 enum-told-2 c = search needs
@@ -58,13 +67,23 @@ loop-less-3 : tie.Need-loop-less-3 Inv-loop μ-loop
 loop-less-3 c = omega (arith, (c .before .before .before .before .before .before .loop-test .taken))
 
 loop-again-3 : tie.Need-loop-again-3 Inv-loop μ-loop
-loop-again-3 c = ending-on (c .before .before .before .before .before .before .before .before .before .args .service) (c .before .before .before .before .before .before .before .before .before .args .message .now) (c .before .before .before .before .before .before .before .before .before .args .from) (c .before .before .before .before .before .before .before .loop .at) (c .before .before .before .before .before .before .loop-test .taken) (c .before .before .before .before .before .before .before .loop .inv) _ (c .before .before .kind-of .ensures) _ (c .enum-told2 .given .1) refl
+loop-again-3 c =
+    let kind-of = c .before .before .kind-of in
+    let loop-test = c .before .before .before .before .before .before .loop-test in
+    let loop = c .before .before .before .before .before .before .before .loop in
+    let args = c .before .before .before .before .before .before .before .before .before .args in
+    ending-on (args .service) (args .message .now) (args .from) (loop .at) (loop-test .taken) (loop .inv) _ (kind-of .ensures) _ (c .enum-told2 .given .1) refl
 
 enum-told-3 : tie.Need-enum-told-3 Inv-loop μ-loop
 enum-told-3 c = search needs
 
 returns : tie.Need-returns Inv-loop μ-loop
-returns c = ending-found (c .before .before .before .before .before .before .before .before .before .args .service) (c .before .before .before .before .before .before .before .before .before .args .message .now) (c .before .before .before .before .before .before .before .before .before .args .from) (c .before .before .before .before .before .before .before .loop .at) (c .before .before .before .before .before .before .loop-test .taken) (c .before .before .before .before .before .before .before .loop .inv) _ (c .before .before .kind-of .ensures) (c .enum-told3 .given .1)
+returns c =
+    let kind-of = c .before .before .kind-of in
+    let loop-test = c .before .before .before .before .before .before .loop-test in
+    let loop = c .before .before .before .before .before .before .before .loop in
+    let args = c .before .before .before .before .before .before .before .before .before .args in
+    ending-found (args .service) (args .message .now) (args .from) (loop .at) (loop-test .taken) (loop .inv) _ (kind-of .ensures) (c .enum-told3 .given .1)
 
 enum-told-4 : tie.Need-enum-told-4 Inv-loop μ-loop
 enum-told-4 c = search needs
@@ -76,16 +95,33 @@ is-released-requires : tie.Need-is-released-requires Inv-loop μ-loop
 is-released-requires c κs = search needs
 
 returns-2 : tie.Need-returns-2 Inv-loop μ-loop
-returns-2 c = ending-unreleased (c .before .before .before .before .before .before .before .before .before .before .before .args .service) (c .before .before .before .before .before .before .before .before .before .before .before .args .message .now) (c .before .before .before .before .before .before .before .before .before .before .before .args .from) (c .before .before .before .before .before .before .before .before .before .loop .at) (c .before .before .before .before .before .before .before .before .loop-test .taken) (c .before .before .before .before .before .before .before .before .before .loop .inv) _ (c .before .before .before .before .kind-of .ensures) (c .before .before .enum-told4 .given .1) (sym (c .before .is-released .ensures) ∙ not-true _ (c .if2 .taken))
+returns-2 c =
+    let enum-told4 = c .before .before .enum-told4 in
+    let kind-of = c .before .before .before .before .kind-of in
+    let loop-test = c .before .before .before .before .before .before .before .before .loop-test in
+    let loop = c .before .before .before .before .before .before .before .before .before .loop in
+    let args = c .before .before .before .before .before .before .before .before .before .before .before .args in
+    ending-unreleased (args .service) (args .message .now) (args .from) (loop .at) (loop-test .taken) (loop .inv) _ (kind-of .ensures) (enum-told4 .given .1) (sym (c .before .is-released .ensures) ∙ not-true _ (c .if2 .taken))
 
 add-at-4 : tie.Need-add-at-4 Inv-loop μ-loop
-add-at-4 c = omega (arith, (c .before .before .before .before .before .before .before .before .loop-test .taken), (c .before .before .before .before .before .before .before .before .before .before .before .good .1 .0 .1))
+add-at-4 c =
+    let loop-test = c .before .before .before .before .before .before .before .before .loop-test in
+    let good = c .before .before .before .before .before .before .before .before .before .before .before .good in
+    omega (arith, (loop-test .taken), (good .1 .0 .1))
 
 loop-less-4 : tie.Need-loop-less-4 Inv-loop μ-loop
-loop-less-4 c = omega (arith, (c .before .before .before .before .before .before .before .before .loop-test .taken))
+loop-less-4 c =
+    let loop-test = c .before .before .before .before .before .before .before .before .loop-test in
+    omega (arith, (loop-test .taken))
 
 loop-again-4 : tie.Need-loop-again-4 Inv-loop μ-loop
-loop-again-4 c = ending-released (c .before .before .before .before .before .before .before .before .before .before .before .args .service) (c .before .before .before .before .before .before .before .before .before .before .before .args .message .now) (c .before .before .before .before .before .before .before .before .before .before .before .args .from) (c .before .before .before .before .before .before .before .before .before .loop .at) (c .before .before .before .before .before .before .before .before .loop-test .taken) (c .before .before .before .before .before .before .before .before .before .loop .inv) _ (c .before .before .before .before .kind-of .ensures) (c .before .before .enum-told4 .given .1) (sym (c .before .is-released .ensures) ∙ not-false _ (c .if2 .left))
+loop-again-4 c =
+    let enum-told4 = c .before .before .enum-told4 in
+    let kind-of = c .before .before .before .before .kind-of in
+    let loop-test = c .before .before .before .before .before .before .before .before .loop-test in
+    let loop = c .before .before .before .before .before .before .before .before .before .loop in
+    let args = c .before .before .before .before .before .before .before .before .before .before .before .args in
+    ending-released (args .service) (args .message .now) (args .from) (loop .at) (loop-test .taken) (loop .inv) _ (kind-of .ensures) (enum-told4 .given .1) (sym (c .before .is-released .ensures) ∙ not-false _ (c .if2 .left))
 
 enum-told-5 : tie.Need-enum-told-5 Inv-loop μ-loop
 enum-told-5 c = search needs
@@ -97,16 +133,28 @@ loop-less-5 : tie.Need-loop-less-5 Inv-loop μ-loop
 loop-less-5 c = omega (arith, (c .before .before .before .before .before .before .loop-test .taken))
 
 loop-again-5 : tie.Need-loop-again-5 Inv-loop μ-loop
-loop-again-5 c = ending-on (c .before .before .before .before .before .before .before .before .before .args .service) (c .before .before .before .before .before .before .before .before .before .args .message .now) (c .before .before .before .before .before .before .before .before .before .args .from) (c .before .before .before .before .before .before .before .loop .at) (c .before .before .before .before .before .before .loop-test .taken) (c .before .before .before .before .before .before .before .loop .inv) _ (c .before .before .kind-of .ensures) _ (c .enum-told5 .given .1) refl
+loop-again-5 c =
+    let kind-of = c .before .before .kind-of in
+    let loop-test = c .before .before .before .before .before .before .loop-test in
+    let loop = c .before .before .before .before .before .before .before .loop in
+    let args = c .before .before .before .before .before .before .before .before .before .args in
+    ending-on (args .service) (args .message .now) (args .from) (loop .at) (loop-test .taken) (loop .inv) _ (kind-of .ensures) _ (c .enum-told5 .given .1) refl
 
 enum-told-6 : tie.Need-enum-told-6 Inv-loop μ-loop
 enum-told-6 c = search needs
 
 returns-3 : tie.Need-returns-3 Inv-loop μ-loop
-returns-3 c = ending-bad (c .before .before .before .before .before .before .before .before .before .args .service) (c .before .before .before .before .before .before .before .before .before .args .message .now) (c .before .before .before .before .before .before .before .before .before .args .from) (c .before .before .before .before .before .before .before .loop .at) (c .before .before .before .before .before .before .loop-test .taken) (c .before .before .before .before .before .before .before .loop .inv) _ (c .before .before .kind-of .ensures) (c .enum-told6 .given .1)
+returns-3 c =
+    let kind-of = c .before .before .kind-of in
+    let loop-test = c .before .before .before .before .before .before .loop-test in
+    let loop = c .before .before .before .before .before .before .before .loop in
+    let args = c .before .before .before .before .before .before .before .before .before .args in
+    ending-bad (args .service) (args .message .now) (args .from) (loop .at) (loop-test .taken) (loop .inv) _ (kind-of .ensures) (c .enum-told6 .given .1)
 
 returns-4 : tie.Need-returns-4 Inv-loop μ-loop
-returns-4 c = ending-out (c .before .before .before .args .service) (c .before .before .before .args .message .now) (c .before .before .before .args .from) (c .before .loop .at) (c .loop-test .left) (c .before .loop .inv)
+returns-4 c =
+    let args = c .before .before .before .args in
+    ending-out (args .service) (args .message .now) (args .from) (c .before .loop .at) (c .loop-test .left) (c .before .loop .inv)
 
 pub end-inside-spec : {M : Type 1} → statement M
 end-inside-spec =

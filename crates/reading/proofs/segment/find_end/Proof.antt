@@ -1,7 +1,7 @@
 -- `segment::find_end` meets its contract: the byte behind the tag decides.
 use native.Mathlib.Omega.{arith}
 use mathlib.Core.Path.{refl, sym, ap}
-use Rattle.reading.specs.Machine.{orLength}
+use Rattle.reading.specs.method.Machine.{orLength}
 use Rattle.reading.proofs.Ending.{tag-there, tag-missing, tagged-inside, tagged-found, tagged-bad}
 use borrow.Author.Needs.{needs}
 use Rattle.reading.proofs.segment.find_end.Statement.{statement}
@@ -11,7 +11,9 @@ has-tag-requires : tie.Need-has-tag-requires
 has-tag-requires c κs = search needs
 
 returns : tie.Need-returns
-returns c = ap (orLength (c .before .before .before .args .message .now)) (sym (tag-missing (c .before .before .before .args .message .now) (c .before .before .before .args .at) (c .before .has-tag .result) (c .before .has-tag .ensures) (c .if1 .taken) (c .before .before .before .args .service)))
+returns c =
+    let args = c .before .before .before .args in
+    ap (orLength (args .message .now)) (sym (tag-missing (args .message .now) (args .at) (c .before .has-tag .result) (c .before .has-tag .ensures) (c .if1 .taken) (args .service)))
 
 add-kind-of : tie.Need-add-kind-of
 add-kind-of c = let t = tag-there (c .before .before .before .args .message .now) (c .before .before .before .args .at) (c .before .has-tag .result) (c .before .has-tag .ensures) (c .if1 .left) .0 in omega (arith, t, (c .before .before .before .good .1 .0 .1))

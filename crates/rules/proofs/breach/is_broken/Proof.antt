@@ -10,19 +10,41 @@ returns-2 : tie.Need-returns-2
 returns-2 c = simp (ne-eqb (c .before .before .args .mode) 0 (c .before .if1 .left), eq-eqb (c .before .before .args .mode) 1 (c .if2 .taken))
 
 returns-3 : tie.Need-returns-3
-returns-3 c = simp (ne-eqb (c .before .before .before .before .args .mode) 0 (c .before .before .before .if1 .left), ne-eqb (c .before .before .before .before .args .mode) 1 (c .before .before .if2 .left), eq-eqb (c .before .before .before .before .args .mode) 3 (c .before .if3 .taken), (c .if4 .taken))
+returns-3 c =
+    let if2 = c .before .before .if2 in
+    let if1 = c .before .before .before .if1 in
+    let args = c .before .before .before .before .args in
+    simp (ne-eqb (args .mode) 0 (if1 .left), ne-eqb (args .mode) 1 (if2 .left), eq-eqb (args .mode) 3 (c .before .if3 .taken), (c .if4 .taken))
 
 returns-4 : tie.Need-returns-4
-returns-4 c = simp (ne-eqb (c .before .before .before .before .args .mode) 0 (c .before .before .before .if1 .left), ne-eqb (c .before .before .before .before .args .mode) 1 (c .before .before .if2 .left), eq-eqb (c .before .before .before .before .args .mode) 3 (c .before .if3 .taken), (c .if4 .left))
+returns-4 c =
+    let if2 = c .before .before .if2 in
+    let if1 = c .before .before .before .if1 in
+    let args = c .before .before .before .before .args in
+    simp (ne-eqb (args .mode) 0 (if1 .left), ne-eqb (args .mode) 1 (if2 .left), eq-eqb (args .mode) 3 (c .before .if3 .taken), (c .if4 .left))
 
 returns-5 : tie.Need-returns-5
-returns-5 c = simp (ne-eqb (c .before .before .before .before .before .args .mode) 0 (c .before .before .before .before .if1 .left), ne-eqb (c .before .before .before .before .before .args .mode) 1 (c .before .before .before .if2 .left), ne-eqb (c .before .before .before .before .before .args .mode) 3 (c .before .before .if3 .left), eq-eqb (c .before .before .before .before .before .args .mode) 4 (c .before .if5 .taken), (c .if6 .taken))
+returns-5 c =
+    let if3 = c .before .before .if3 in
+    let if2 = c .before .before .before .if2 in
+    let if1 = c .before .before .before .before .if1 in
+    let args = c .before .before .before .before .before .args in
+    simp (ne-eqb (args .mode) 0 (if1 .left), ne-eqb (args .mode) 1 (if2 .left), ne-eqb (args .mode) 3 (if3 .left), eq-eqb (args .mode) 4 (c .before .if5 .taken), (c .if6 .taken))
 
 returns-6 : tie.Need-returns-6
-returns-6 c = simp (ne-eqb (c .before .before .before .before .before .args .mode) 0 (c .before .before .before .before .if1 .left), ne-eqb (c .before .before .before .before .before .args .mode) 1 (c .before .before .before .if2 .left), ne-eqb (c .before .before .before .before .before .args .mode) 3 (c .before .before .if3 .left), eq-eqb (c .before .before .before .before .before .args .mode) 4 (c .before .if5 .taken), (c .if6 .left))
+returns-6 c =
+    let if3 = c .before .before .if3 in
+    let if2 = c .before .before .before .if2 in
+    let if1 = c .before .before .before .before .if1 in
+    let args = c .before .before .before .before .before .args in
+    simp (ne-eqb (args .mode) 0 (if1 .left), ne-eqb (args .mode) 1 (if2 .left), ne-eqb (args .mode) 3 (if3 .left), eq-eqb (args .mode) 4 (c .before .if5 .taken), (c .if6 .left))
 
 returns-7 : tie.Need-returns-7
-returns-7 c = simp (ne-eqb (c .before .before .before .before .args .mode) 0 (c .before .before .before .if1 .left), ne-eqb (c .before .before .before .before .args .mode) 1 (c .before .before .if2 .left), ne-eqb (c .before .before .before .before .args .mode) 3 (c .before .if3 .left), ne-eqb (c .before .before .before .before .args .mode) 4 (c .if5 .left))
+returns-7 c =
+    let if2 = c .before .before .if2 in
+    let if1 = c .before .before .before .if1 in
+    let args = c .before .before .before .before .args in
+    simp (ne-eqb (args .mode) 0 (if1 .left), ne-eqb (args .mode) 1 (if2 .left), ne-eqb (args .mode) 3 (c .before .if3 .left), ne-eqb (args .mode) 4 (c .if5 .left))
 
 pub is-broken-spec : {M : Type 1} → statement M
 is-broken-spec =

@@ -4,10 +4,10 @@ use Prim.Native.Nat.{ℕ, _-_, _≤_, _%_}
 use native.Mathlib.Omega.{arith}
 use mathlib.Core.Path.{_≡_, sym, ap, _∙_}
 use borrow.Author.Needs.{needs}
-use Rattle.book.specs.Guide.{guideOf}
-use Rattle.rules.specs.Conditions.{firstUnknown}
-use Rattle.rules.specs.Rows.{conditionsOf}
-use Rattle.rules.specs.Scanning.{rowNumbered}
+use Rattle.book.specs.meaning.Guide.{guideOf}
+use Rattle.rules.specs.meaning.Conditions.{firstUnknown}
+use Rattle.rules.specs.meaning.Rows.{conditionsOf}
+use Rattle.rules.specs.method.Scanning.{rowNumbered}
 use Rattle.rules.proofs.Loops.{lowestFrom, lowest-all, lowest-end, lowest-unused, lowest-here, lowest-on, is-unknown, not-unknown}
 use Rattle.rules.proofs.breach.lowest_unknown.Statement.{statement}
 use Rattle.rules.proofs.breach.lowest_unknown.Tie as tie
@@ -28,22 +28,40 @@ add-next : tie.Need-add-next Inv-loop μ-loop
 add-next c = omega arith
 
 returns : tie.Need-returns Inv-loop μ-loop
-returns c = lowest-unused (c .before .before .before .before .before .before .args .conditions .now) (guideOf (c .before .before .before .before .before .before .args .book .now) .condition (c .before .before .before .before .before .before .args .row)) (c .before .before .before .loop .next) 3 (c .before .before .loop-test .taken) (sym (c .before .condition .ensures .0) ∙ (c .if1 .taken)) ∙ (c .before .before .before .loop .inv .0)
+returns c =
+    let loop-test = c .before .before .loop-test in
+    let loop = c .before .before .before .loop in
+    let args = c .before .before .before .before .before .before .args in
+    lowest-unused (args .conditions .now) (guideOf (args .book .now) .condition (args .row)) (loop .next) 3 (loop-test .taken) (sym (c .before .condition .ensures .0) ∙ (c .if1 .taken)) ∙ (loop .inv .0)
 
 said-of-requires : tie.Need-said-of-requires Inv-loop μ-loop
 said-of-requires c κs = search needs
 
 returns-2 : tie.Need-returns-2 Inv-loop μ-loop
-returns-2 c = ap (λ (x : ℕ). x % 128) (c .before .before .before .condition .ensures .0) ∙ lowest-here (c .before .before .before .before .before .before .before .before .args .conditions .now) (guideOf (c .before .before .before .before .before .before .before .before .args .book .now) .condition (c .before .before .before .before .before .before .before .before .args .row)) (c .before .before .before .before .before .loop .next) 3 (c .before .before .before .before .loop-test .taken) (λ e. (c .before .before .if1 .left) ((c .before .before .before .condition .ensures .0) ∙ e)) (is-unknown (c .before .before .before .before .before .before .before .before .args .conditions .now) (c .before .before .before .condition .ensures .0) (c .before .said-of .ensures) (c .if2 .taken)) ∙ (c .before .before .before .before .before .loop .inv .0)
+returns-2 c =
+    let if1 = c .before .before .if1 in
+    let condition = c .before .before .before .condition in
+    let loop-test = c .before .before .before .before .loop-test in
+    let loop = c .before .before .before .before .before .loop in
+    let args = c .before .before .before .before .before .before .before .before .args in
+    ap (λ (x : ℕ). x % 128) (condition .ensures .0) ∙ lowest-here (args .conditions .now) (guideOf (args .book .now) .condition (args .row)) (loop .next) 3 (loop-test .taken) (λ e. (if1 .left) ((condition .ensures .0) ∙ e)) (is-unknown (args .conditions .now) (condition .ensures .0) (c .before .said-of .ensures) (c .if2 .taken)) ∙ (loop .inv .0)
 
 loop-less : tie.Need-loop-less Inv-loop μ-loop
 loop-less c = omega (arith, (c .before .before .before .before .loop-test .taken))
 
 loop-again : tie.Need-loop-again Inv-loop μ-loop
-loop-again c = (lowest-on (c .before .before .before .before .before .before .before .before .args .conditions .now) (guideOf (c .before .before .before .before .before .before .before .before .args .book .now) .condition (c .before .before .before .before .before .before .before .before .args .row)) (c .before .before .before .before .before .loop .next) 3 (c .before .before .before .before .loop-test .taken) (λ e. (c .before .before .if1 .left) ((c .before .before .before .condition .ensures .0) ∙ e)) (not-unknown (c .before .before .before .before .before .before .before .before .args .conditions .now) (c .before .before .before .condition .ensures .0) (c .before .said-of .ensures) (c .if2 .left)) ∙ (c .before .before .before .before .before .loop .inv .0), omega (arith, (c .before .before .before .before .loop-test .taken)))
+loop-again c =
+    let if1 = c .before .before .if1 in
+    let condition = c .before .before .before .condition in
+    let loop-test = c .before .before .before .before .loop-test in
+    let loop = c .before .before .before .before .before .loop in
+    let args = c .before .before .before .before .before .before .before .before .args in
+    (lowest-on (args .conditions .now) (guideOf (args .book .now) .condition (args .row)) (loop .next) 3 (loop-test .taken) (λ e. (if1 .left) ((condition .ensures .0) ∙ e)) (not-unknown (args .conditions .now) (condition .ensures .0) (c .before .said-of .ensures) (c .if2 .left)) ∙ (loop .inv .0), omega (arith, (loop-test .taken)))
 
 returns-3 : tie.Need-returns-3 Inv-loop μ-loop
-returns-3 c = lowest-end (c .before .before .before .before .args .conditions .now) (guideOf (c .before .before .before .before .args .book .now) .condition (c .before .before .before .before .args .row)) (c .before .loop .next) 3 (c .loop-test .left) ∙ (c .before .loop .inv .0)
+returns-3 c =
+    let args = c .before .before .before .before .args in
+    lowest-end (args .conditions .now) (guideOf (args .book .now) .condition (args .row)) (c .before .loop .next) 3 (c .loop-test .left) ∙ (c .before .loop .inv .0)
 
 pub lowest-unknown-spec : {M : Type 1} → statement M
 lowest-unknown-spec =

@@ -4,8 +4,8 @@ use native.Mathlib.Omega.{arith}
 use mathlib.Core.Path.{_≡_, sym, _∙_}
 use lib.Dec.{eqb}
 use borrow.Author.Needs.{needs}
-use Rattle.book.specs.Guide.{guideOf}
-use Rattle.rules.specs.Scanning.{readRow, rowNumbered}
+use Rattle.book.specs.meaning.Guide.{guideOf}
+use Rattle.rules.specs.method.Scanning.{readRow, rowNumbered}
 use Rattle.rules.proofs.Loops.{readingFrom, reading-all, reading-end, reading-unused, reading-decided, reading-on, decided}
 use Rattle.rules.proofs.breach.read_row.Statement.{statement}
 use Rattle.rules.proofs.breach.read_row.Tie as tie
@@ -20,7 +20,9 @@ joint-requires : tie.Need-joint-requires Inv-loop μ-loop
 joint-requires c κs = search needs
 
 loop-holds : tie.Need-loop-holds Inv-loop μ-loop
-loop-holds c = (reading-all (c .before .before .before .args .conditions .now) (c .before .before .before .args .guess) (guideOf (c .before .before .before .args .book .now)) (c .before .before .before .args .row) (c .joint .result) (c .joint .ensures .0), omega arith)
+loop-holds c =
+    let args = c .before .before .before .args in
+    (reading-all (args .conditions .now) (args .guess) (guideOf (args .book .now)) (args .row) (c .joint .result) (c .joint .ensures .0), omega arith)
 
 condition-requires : tie.Need-condition-requires Inv-loop μ-loop
 condition-requires c κs = search needs
@@ -29,7 +31,12 @@ add-next : tie.Need-add-next Inv-loop μ-loop
 add-next c = omega arith
 
 returns : tie.Need-returns Inv-loop μ-loop
-returns c = reading-unused (eqb (c .before .before .before .before .joint .result) 2) (c .before .before .before .before .before .before .before .args .conditions .now) (c .before .before .before .before .before .before .before .args .guess) (guideOf (c .before .before .before .before .before .before .before .args .book .now) .condition (c .before .before .before .before .before .before .before .args .row)) (c .before .before .before .loop .next) 3 (c .before .before .loop-test .taken) (sym (c .before .condition .ensures .0) ∙ (c .if1 .taken)) ∙ (c .before .before .before .loop .inv .0)
+returns c =
+    let loop-test = c .before .before .loop-test in
+    let loop = c .before .before .before .loop in
+    let joint = c .before .before .before .before .joint in
+    let args = c .before .before .before .before .before .before .before .args in
+    reading-unused (eqb (joint .result) 2) (args .conditions .now) (args .guess) (guideOf (args .book .now) .condition (args .row)) (loop .next) 3 (loop-test .taken) (sym (c .before .condition .ensures .0) ∙ (c .if1 .taken)) ∙ (loop .inv .0)
 
 read-literal-requires : tie.Need-read-literal-requires Inv-loop μ-loop
 read-literal-requires c κs = search needs
@@ -38,16 +45,35 @@ decides-requires : tie.Need-decides-requires Inv-loop μ-loop
 decides-requires c κs = search needs
 
 returns-2 : tie.Need-returns-2 Inv-loop μ-loop
-returns-2 c = reading-decided (eqb (c .before .before .before .before .before .before .before .joint .result) 2) (c .before .before .before .before .before .before .before .before .before .before .args .conditions .now) (c .before .before .before .before .before .before .before .before .before .before .args .guess) (guideOf (c .before .before .before .before .before .before .before .before .before .before .args .book .now) .condition (c .before .before .before .before .before .before .before .before .before .before .args .row)) (c .before .before .before .before .before .before .loop .next) 3 (c .before .before .before .before .before .loop-test .taken) (λ e. (c .before .before .before .if1 .left) ((c .before .before .before .before .condition .ensures .0) ∙ e)) (decided (eqb (c .before .before .before .before .before .before .before .joint .result) 2) (c .before .before .before .before .before .before .before .before .before .before .args .conditions .now) (c .before .before .before .before .before .before .before .before .before .before .args .guess) (c .before .before .before .before .condition .ensures .0) (c .before .before .read-literal .ensures) (c .before .decides .ensures) (c .if2 .taken)) ∙ (c .before .before .before .before .before .before .loop .inv .0)
+returns-2 c =
+    let if1 = c .before .before .before .if1 in
+    let read-literal = c .before .before .read-literal in
+    let condition = c .before .before .before .before .condition in
+    let loop-test = c .before .before .before .before .before .loop-test in
+    let loop = c .before .before .before .before .before .before .loop in
+    let joint = c .before .before .before .before .before .before .before .joint in
+    let args = c .before .before .before .before .before .before .before .before .before .before .args in
+    reading-decided (eqb (joint .result) 2) (args .conditions .now) (args .guess) (guideOf (args .book .now) .condition (args .row)) (loop .next) 3 (loop-test .taken) (λ e. (if1 .left) ((condition .ensures .0) ∙ e)) (decided (eqb (joint .result) 2) (args .conditions .now) (args .guess) (condition .ensures .0) (read-literal .ensures) (c .before .decides .ensures) (c .if2 .taken)) ∙ (loop .inv .0)
 
 loop-less : tie.Need-loop-less Inv-loop μ-loop
 loop-less c = omega (arith, (c .before .before .before .before .before .loop-test .taken))
 
 loop-again : tie.Need-loop-again Inv-loop μ-loop
-loop-again c = (reading-on (eqb (c .before .before .before .before .before .before .before .joint .result) 2) (c .before .before .before .before .before .before .before .before .before .before .args .conditions .now) (c .before .before .before .before .before .before .before .before .before .before .args .guess) (guideOf (c .before .before .before .before .before .before .before .before .before .before .args .book .now) .condition (c .before .before .before .before .before .before .before .before .before .before .args .row)) (c .before .before .before .before .before .before .loop .next) 3 (c .before .before .before .before .before .loop-test .taken) (λ e. (c .before .before .before .if1 .left) ((c .before .before .before .before .condition .ensures .0) ∙ e)) (decided (eqb (c .before .before .before .before .before .before .before .joint .result) 2) (c .before .before .before .before .before .before .before .before .before .before .args .conditions .now) (c .before .before .before .before .before .before .before .before .before .before .args .guess) (c .before .before .before .before .condition .ensures .0) (c .before .before .read-literal .ensures) (c .before .decides .ensures) (c .if2 .left)) ∙ (c .before .before .before .before .before .before .loop .inv .0), omega (arith, (c .before .before .before .before .before .loop-test .taken)))
+loop-again c =
+    let if1 = c .before .before .before .if1 in
+    let read-literal = c .before .before .read-literal in
+    let condition = c .before .before .before .before .condition in
+    let loop-test = c .before .before .before .before .before .loop-test in
+    let loop = c .before .before .before .before .before .before .loop in
+    let joint = c .before .before .before .before .before .before .before .joint in
+    let args = c .before .before .before .before .before .before .before .before .before .before .args in
+    (reading-on (eqb (joint .result) 2) (args .conditions .now) (args .guess) (guideOf (args .book .now) .condition (args .row)) (loop .next) 3 (loop-test .taken) (λ e. (if1 .left) ((condition .ensures .0) ∙ e)) (decided (eqb (joint .result) 2) (args .conditions .now) (args .guess) (condition .ensures .0) (read-literal .ensures) (c .before .decides .ensures) (c .if2 .left)) ∙ (loop .inv .0), omega (arith, (loop-test .taken)))
 
 returns-3 : tie.Need-returns-3 Inv-loop μ-loop
-returns-3 c = reading-end (eqb (c .before .before .joint .result) 2) (c .before .before .before .before .before .args .conditions .now) (c .before .before .before .before .before .args .guess) (guideOf (c .before .before .before .before .before .args .book .now) .condition (c .before .before .before .before .before .args .row)) (c .before .loop .next) 3 (c .loop-test .left) ∙ (c .before .loop .inv .0)
+returns-3 c =
+    let joint = c .before .before .joint in
+    let args = c .before .before .before .before .before .args in
+    reading-end (eqb (joint .result) 2) (args .conditions .now) (args .guess) (guideOf (args .book .now) .condition (args .row)) (c .before .loop .next) 3 (c .loop-test .left) ∙ (c .before .loop .inv .0)
 
 pub read-row-spec : {M : Type 1} → statement M
 read-row-spec =

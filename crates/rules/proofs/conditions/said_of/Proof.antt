@@ -1,7 +1,7 @@
 -- `conditions::said_of` meets its contract: conditions count from 1. Assumes nothing.
 use Prim.Native.Nat.{_-_}
 use native.Mathlib.Omega.{arith}
-use Rattle.rules.proofs.Fillings.{said-in, said-past}
+use Rattle.rules.proofs.Loops.{said-in, said-past}
 use borrow.Author.Needs.{needs}
 use Rattle.rules.proofs.conditions.said_of.Statement.{statement}
 use Rattle.rules.proofs.conditions.said_of.Tie as tie

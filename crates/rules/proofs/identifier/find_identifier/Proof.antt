@@ -4,8 +4,8 @@ use Prim.Native.Nat.{_-_, _≤_}
 use native.Mathlib.Omega.{arith}
 use mathlib.Core.Path.{_≡_, sym, _∙_}
 use borrow.Author.Needs.{needs}
-use Rattle.book.specs.Guide.{guideOf}
-use Rattle.rules.specs.Identifiers.{identifiedFrom, identified}
+use Rattle.book.specs.meaning.Guide.{guideOf}
+use Rattle.rules.specs.method.Identifiers.{identifiedFrom, identified}
 use Rattle.rules.proofs.identifier.find_identifier.Statement.{statement}
 use Rattle.rules.proofs.identifier.find_identifier.Tie as tie
 
@@ -28,16 +28,29 @@ is-identifier-requires : tie.Need-is-identifier-requires Inv-loop μ-loop
 is-identifier-requires c κs = search needs
 
 returns : tie.Need-returns Inv-loop μ-loop
-returns c = identified-here (guideOf (c .before .before .before .before .before .before .before .args .book .now)) (c .before .before .before .before .before .before .before .args .value .now) (c .before .before .before .loop .next) (guideOf (c .before .before .before .before .before .before .before .args .book .now) .identifiers) (omega (arith, (c .before .before .loop-test .taken), (c .before .before .before .before .identifiers .ensures .0))) (sym (c .before .is-identifier .ensures) ∙ (c .if1 .taken)) ∙ (c .before .before .before .loop .inv .0)
+returns c =
+    let loop-test = c .before .before .loop-test in
+    let loop = c .before .before .before .loop in
+    let identifiers = c .before .before .before .before .identifiers in
+    let args = c .before .before .before .before .before .before .before .args in
+    identified-here (guideOf (args .book .now)) (args .value .now) (loop .next) (guideOf (args .book .now) .identifiers) (omega (arith, (loop-test .taken), (identifiers .ensures .0))) (sym (c .before .is-identifier .ensures) ∙ (c .if1 .taken)) ∙ (loop .inv .0)
 
 loop-less : tie.Need-loop-less Inv-loop μ-loop
 loop-less c = omega (arith, (c .before .before .loop-test .taken), (c .before .before .before .before .identifiers .ensures .0))
 
 loop-again : tie.Need-loop-again Inv-loop μ-loop
-loop-again c = (identified-on (guideOf (c .before .before .before .before .before .before .before .args .book .now)) (c .before .before .before .before .before .before .before .args .value .now) (c .before .before .before .loop .next) (guideOf (c .before .before .before .before .before .before .before .args .book .now) .identifiers) (omega (arith, (c .before .before .loop-test .taken), (c .before .before .before .before .identifiers .ensures .0))) (sym (c .before .is-identifier .ensures) ∙ (c .if1 .left)) ∙ (c .before .before .before .loop .inv .0), omega (arith, (c .before .before .loop-test .taken), (c .before .before .before .before .identifiers .ensures .0)))
+loop-again c =
+    let loop-test = c .before .before .loop-test in
+    let loop = c .before .before .before .loop in
+    let identifiers = c .before .before .before .before .identifiers in
+    let args = c .before .before .before .before .before .before .before .args in
+    (identified-on (guideOf (args .book .now)) (args .value .now) (loop .next) (guideOf (args .book .now) .identifiers) (omega (arith, (loop-test .taken), (identifiers .ensures .0))) (sym (c .before .is-identifier .ensures) ∙ (c .if1 .left)) ∙ (loop .inv .0), omega (arith, (loop-test .taken), (identifiers .ensures .0)))
 
 returns-2 : tie.Need-returns-2 Inv-loop μ-loop
-returns-2 c = identified-end (guideOf (c .before .before .before .before .before .args .book .now)) (c .before .before .before .before .before .args .value .now) (c .before .loop .next) (guideOf (c .before .before .before .before .before .args .book .now) .identifiers) (omega (arith, (c .loop-test .left), (c .before .before .identifiers .ensures .0))) ∙ (c .before .loop .inv .0)
+returns-2 c =
+    let identifiers = c .before .before .identifiers in
+    let args = c .before .before .before .before .before .args in
+    identified-end (guideOf (args .book .now)) (args .value .now) (c .before .loop .next) (guideOf (args .book .now) .identifiers) (omega (arith, (c .loop-test .left), (identifiers .ensures .0))) ∙ (c .before .loop .inv .0)
 
 pub find-identifier-spec : {M : Type 1} → statement M
 find-identifier-spec =

@@ -7,9 +7,9 @@ use native.Mathlib.Omega.{arith}
 use mathlib.Core.Path.{_≡_, sym, _∙_}
 use lib.ListN.{drop}
 use borrow.Author.Needs.{needs}
-use Rattle.book.specs.Guide.{guideOf}
-use Rattle.reading.specs.Machine.{sameComponent}
-use Rattle.rules.specs.Identifiers.{identifierValue}
+use Rattle.book.specs.meaning.Guide.{guideOf}
+use Rattle.reading.specs.meaning.Component.{sameComponent}
+use Rattle.rules.specs.meaning.Identifiers.{identifierValue}
 use Rattle.rules.proofs.identifier.is_identifier.Statement.{statement}
 use Rattle.rules.proofs.identifier.is_identifier.Tie as tie
 
@@ -20,10 +20,14 @@ abbrev μ-loop : tie.MeasureT-loop
 μ-loop book identifier value next₀ next = 5 - next
 
 returns : tie.Need-returns Inv-loop μ-loop
-returns c = different-lengths (c .before .before .before .args .value .now) (identifierValue (guideOf (c .before .before .before .args .book .now)) (c .before .before .before .args .identifier)) (c .if1 .taken)
+returns c =
+    let args = c .before .before .before .args in
+    different-lengths (args .value .now) (identifierValue (guideOf (args .book .now)) (args .identifier)) (c .if1 .taken)
 
 loop-holds : tie.Need-loop-holds Inv-loop μ-loop
-loop-holds c = (same-all (guideOf (c .before .before .before .args .book .now)) (c .before .before .before .args .identifier) (c .before .before .before .args .value .now), omega arith)
+loop-holds c =
+    let args = c .before .before .before .args in
+    (same-all (guideOf (args .book .now)) (args .identifier) (args .value .now), omega arith)
 
 add-next : tie.Need-add-next Inv-loop μ-loop
 add-next c = omega arith
@@ -41,16 +45,29 @@ identifier-byte-requires : tie.Need-identifier-byte-requires Inv-loop μ-loop
 identifier-byte-requires c κs = search needs
 
 returns-2 : tie.Need-returns-2 Inv-loop μ-loop
-returns-2 c = same-differs (c .before .before .before .before .before .before .before .before .args .value .now) (guideOf (c .before .before .before .before .before .before .before .before .args .book .now) .identifierByte (c .before .before .before .before .before .before .before .before .args .identifier)) 5 (c .before .before .before .before .before .if1 .left) (c .before .before .before .before .loop .next) (c .before .before .before .loop-test .taken) (λ e. (c .if2 .taken) (e ∙ sym (c .before .identifier-byte .ensures .0))) ∙ (c .before .before .before .before .loop .inv .0)
+returns-2 c =
+    let loop-test = c .before .before .before .loop-test in
+    let loop = c .before .before .before .before .loop in
+    let if1 = c .before .before .before .before .before .if1 in
+    let args = c .before .before .before .before .before .before .before .before .args in
+    same-differs (args .value .now) (guideOf (args .book .now) .identifierByte (args .identifier)) 5 (if1 .left) (loop .next) (loop-test .taken) (λ e. (c .if2 .taken) (e ∙ sym (c .before .identifier-byte .ensures .0))) ∙ (loop .inv .0)
 
 loop-less : tie.Need-loop-less Inv-loop μ-loop
 loop-less c = omega (arith, (c .before .before .before .loop-test .taken))
 
 loop-again : tie.Need-loop-again Inv-loop μ-loop
-loop-again c = (same-on (c .before .before .before .before .before .before .before .before .args .value .now) (guideOf (c .before .before .before .before .before .before .before .before .args .book .now) .identifierByte (c .before .before .before .before .before .before .before .before .args .identifier)) 5 (c .before .before .before .before .before .if1 .left) (c .before .before .before .before .loop .next) (c .before .before .before .loop-test .taken) ((c .if2 .left) ∙ (c .before .identifier-byte .ensures .0)) ∙ (c .before .before .before .before .loop .inv .0), omega (arith, (c .before .before .before .loop-test .taken)))
+loop-again c =
+    let loop-test = c .before .before .before .loop-test in
+    let loop = c .before .before .before .before .loop in
+    let if1 = c .before .before .before .before .before .if1 in
+    let args = c .before .before .before .before .before .before .before .before .args in
+    (same-on (args .value .now) (guideOf (args .book .now) .identifierByte (args .identifier)) 5 (if1 .left) (loop .next) (loop-test .taken) ((c .if2 .left) ∙ (c .before .identifier-byte .ensures .0)) ∙ (loop .inv .0), omega (arith, (loop-test .taken)))
 
 returns-3 : tie.Need-returns-3 Inv-loop μ-loop
-returns-3 c = same-end (c .before .before .before .before .before .args .value .now) (guideOf (c .before .before .before .before .before .args .book .now) .identifierByte (c .before .before .before .before .before .args .identifier)) 5 (c .before .before .if1 .left) (c .before .loop .next) (c .before .loop .inv .1) (c .loop-test .left) ∙ (c .before .loop .inv .0)
+returns-3 c =
+    let if1 = c .before .before .if1 in
+    let args = c .before .before .before .before .before .args in
+    same-end (args .value .now) (guideOf (args .book .now) .identifierByte (args .identifier)) 5 (if1 .left) (c .before .loop .next) (c .before .loop .inv .1) (c .loop-test .left) ∙ (c .before .loop .inv .0)
 
 pub is-identifier-spec : {M : Type 1} → statement M
 is-identifier-spec =

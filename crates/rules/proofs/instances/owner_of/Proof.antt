@@ -4,8 +4,8 @@ use Prim.Native.Nat.{_≤_, _-_}
 use native.Mathlib.Omega.{arith}
 use mathlib.Core.Path.{_≡_, refl, sym, _∙_}
 use borrow.Author.Needs.{needs}
-use Rattle.placing.specs.Plan.{planIn, deep}
-use Rattle.placing.specs.Tree.{climb, owner}
+use Rattle.placing.specs.meaning.Plan.{planIn, deep}
+use Rattle.placing.specs.meaning.Tree.{climb, owner}
 use Rattle.rules.proofs.Loops.{owner-here, owner-on, owner-end}
 use Rattle.rules.proofs.instances.owner_of.Statement.{statement}
 use Rattle.rules.proofs.instances.owner_of.Tie as tie
@@ -29,16 +29,28 @@ depth-requires-2 : tie.Need-depth-requires-2 Inv-loop μ-loop
 depth-requires-2 c κs = search needs
 
 returns : tie.Need-returns Inv-loop μ-loop
-returns c = (sym (owner-here (planIn (c .before .before .before .before .before .before .args .book .now)) (c .before .before .before .before .before .before .args .line) (c .before .before .before .loop .at) (c .before .before .loop-test .taken) (c .before .before .before .loop .inv .1) (omega (arith, (c .before .before .before .before .depth .ensures .0), (c .before .depth2 .ensures .0), (c .if1 .taken)))) ∙ (c .before .before .before .loop .inv .0), omega (arith, (c .before .before .before .loop .inv .1)))
+returns c =
+    let loop-test = c .before .before .loop-test in
+    let loop = c .before .before .before .loop in
+    let depth = c .before .before .before .before .depth in
+    let args = c .before .before .before .before .before .before .args in
+    (sym (owner-here (planIn (args .book .now)) (args .line) (loop .at) (loop-test .taken) (loop .inv .1) (omega (arith, (depth .ensures .0), (c .before .depth2 .ensures .0), (c .if1 .taken)))) ∙ (loop .inv .0), omega (arith, (loop .inv .1)))
 
 loop-less : tie.Need-loop-less Inv-loop μ-loop
 loop-less c = omega (arith, (c .before .before .loop-test .taken))
 
 loop-again : tie.Need-loop-again Inv-loop μ-loop
-loop-again c = (sym (owner-on (planIn (c .before .before .before .before .before .before .args .book .now)) (c .before .before .before .before .before .before .args .line) (c .before .before .before .loop .at) (c .before .before .loop-test .taken) (c .before .before .before .loop .inv .1) (omega (arith, (c .before .before .before .before .depth .ensures .0), (c .before .depth2 .ensures .0), (c .if1 .left)))) ∙ (c .before .before .before .loop .inv .0), omega (arith, (c .before .before .before .loop .inv .1)))
+loop-again c =
+    let loop-test = c .before .before .loop-test in
+    let loop = c .before .before .before .loop in
+    let depth = c .before .before .before .before .depth in
+    let args = c .before .before .before .before .before .before .args in
+    (sym (owner-on (planIn (args .book .now)) (args .line) (loop .at) (loop-test .taken) (loop .inv .1) (omega (arith, (depth .ensures .0), (c .before .depth2 .ensures .0), (c .if1 .left)))) ∙ (loop .inv .0), omega (arith, (loop .inv .1)))
 
 returns-2 : tie.Need-returns-2 Inv-loop μ-loop
-returns-2 c = (sym (owner-end (planIn (c .before .before .before .before .args .book .now)) (deep (planIn (c .before .before .before .before .args .book .now)) (c .before .before .before .before .args .line)) (c .before .loop .at) (c .loop-test .left)) ∙ (c .before .loop .inv .0), omega arith)
+returns-2 c =
+    let args = c .before .before .before .before .args in
+    (sym (owner-end (planIn (args .book .now)) (deep (planIn (args .book .now)) (args .line)) (c .before .loop .at) (c .loop-test .left)) ∙ (c .before .loop .inv .0), omega arith)
 
 pub owner-of-spec : {M : Type 1} → statement M
 owner-of-spec =

@@ -1,6 +1,6 @@
 -- `watch::report` meets its contract: from what its parts ensure. Assumes nothing.
 use mathlib.Core.Path.{_∙_}
-use Rattle.rules.specs.Scanning.{reportOf}
+use Rattle.rules.specs.method.Scanning.{reportOf}
 use borrow.Author.Needs.{needs}
 use Rattle.rules.proofs.watch.report.Statement.{statement}
 use Rattle.rules.proofs.watch.report.Tie as tie

@@ -1,5 +1,5 @@
 -- `watch::watch_line` meets its contract: from what its parts ensure. Assumes nothing.
-use Rattle.book.specs.Guide.{guideOf}
+use Rattle.book.specs.meaning.Guide.{guideOf}
 use Rattle.rules.proofs.Watching.{watches}
 use borrow.Author.Needs.{needs}
 use Rattle.rules.proofs.watch.watch_line.Statement.{statement}
@@ -18,7 +18,11 @@ weigh-line-requires-2 : tie.Need-weigh-line-requires-2
 weigh-line-requires-2 c κs = search needs
 
 returns : tie.Need-returns
-returns c = watches (guideOf (c .before .before .before .before .before .before .args .book .now)) (c .before .before .before .before .before .before .args .identifier) (c .before .before .before .before .before .before .args .conditions .now) (c .before .before .before .before .before .before .args .line) (c .before .before .before .trigger-of .ensures) (c .before .before .sign-of .ensures) (c .before .weigh-line .ensures) (c .weigh-line2 .ensures)
+returns c =
+    let sign-of = c .before .before .sign-of in
+    let trigger-of = c .before .before .before .trigger-of in
+    let args = c .before .before .before .before .before .before .args in
+    watches (guideOf (args .book .now)) (args .identifier) (args .conditions .now) (args .line) (trigger-of .ensures) (sign-of .ensures) (c .before .weigh-line .ensures) (c .weigh-line2 .ensures)
 
 pub watch-line-spec : {M : Type 1} → statement M
 watch-line-spec =

@@ -1,5 +1,5 @@
 -- `watch::weigh_line` meets its contract: a required line is passed over, and the row of another is weighed. Assumes nothing.
-use Rattle.book.specs.Guide.{guideOf}
+use Rattle.book.specs.meaning.Guide.{guideOf}
 use Rattle.rules.proofs.Watching.{passed-over, weighed-row}
 use borrow.Author.Needs.{needs}
 use Rattle.rules.proofs.watch.weigh_line.Statement.{statement}
@@ -9,7 +9,9 @@ required-requires : tie.Need-required-requires
 required-requires c κs = search needs
 
 returns : tie.Need-returns
-returns c = passed-over (guideOf (c .before .before .before .before .args .book .now)) (c .before .before .before .before .args .identifier) (c .before .before .before .before .args .conditions .now) (c .before .before .before .before .args .line) (c .before .before .before .before .args .present) (c .before .required .ensures .0) (c .if1 .taken)
+returns c =
+    let args = c .before .before .before .before .args in
+    passed-over (guideOf (args .book .now)) (args .identifier) (args .conditions .now) (args .line) (args .present) (c .before .required .ensures .0) (c .if1 .taken)
 
 row-of-requires : tie.Need-row-of-requires
 row-of-requires c κs = search needs
@@ -18,7 +20,11 @@ weigh-row-requires : tie.Need-weigh-row-requires
 weigh-row-requires c κs = search needs
 
 returns-2 : tie.Need-returns-2
-returns-2 c = weighed-row (guideOf (c .before .before .before .before .before .before .args .book .now)) (c .before .before .before .before .before .before .args .identifier) (c .before .before .before .before .before .before .args .conditions .now) (c .before .before .before .before .before .before .args .line) (c .before .before .before .before .before .before .args .present) (c .before .before .before .required .ensures .0) (c .before .before .if1 .left) (c .before .row-of .ensures) (c .weigh-row .ensures)
+returns-2 c =
+    let if1 = c .before .before .if1 in
+    let required = c .before .before .before .required in
+    let args = c .before .before .before .before .before .before .args in
+    weighed-row (guideOf (args .book .now)) (args .identifier) (args .conditions .now) (args .line) (args .present) (required .ensures .0) (if1 .left) (c .before .row-of .ensures) (c .weigh-row .ensures)
 
 pub weigh-line-spec : {M : Type 1} → statement M
 weigh-line-spec =

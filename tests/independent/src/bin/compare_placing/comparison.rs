@@ -58,11 +58,15 @@ impl Comparison {
         let ask = || archives::place(message, asked, &subject.bytes);
         let ((number, place), time) = self.watch.during(message, &subject.bytes, ask);
         self.note_time(subject, message, time);
-        if !expected.verdict.allows(number, place as usize, segments) {
+        let asked = asked as usize;
+        if !expected
+            .verdict
+            .allows((number, place as usize), segments, asked)
+        {
             report(
                 subject,
                 message,
-                "number and place",
+                &format!("number and place, asked for {asked} segments"),
                 &expected.verdict.in_words(),
                 &format!("{number}, place {place}"),
             );

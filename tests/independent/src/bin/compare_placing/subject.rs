@@ -146,18 +146,20 @@ impl Expected {
 }
 
 impl Verdict {
-    /// Whether the archive may answer this for so many segments.
-    pub fn allows(self, number: u32, place: usize, segments: usize) -> bool {
+    /// Whether the archive may answer this number and place for so many
+    /// segments. Number 0 names as many as it was asked for.
+    pub fn allows(self, answered: (u32, usize), segments: usize, asked: usize) -> bool {
+        let (number, place) = answered;
         let is_plausible = match number {
-            0 => place == 0,
+            0 => place == asked,
             10 | 11 => (1..=segments).contains(&place),
             _ => false,
         };
         is_plausible
             && match self {
                 Verdict::Exactly(Answer::Begins { .. }) => number == 0,
-                Verdict::Exactly(answer) => (answer.number(), answer.place()) == (number, place),
-                Verdict::HomelessAt(first) => (10, first) == (number, place),
+                Verdict::Exactly(answer) => (answer.number(), answer.place()) == answered,
+                Verdict::HomelessAt(first) => (10, first) == answered,
                 Verdict::EveryHome => number != 10,
                 Verdict::Open => true,
             }
@@ -165,7 +167,7 @@ impl Verdict {
 
     pub fn in_words(self) -> String {
         match self {
-            Verdict::Exactly(Answer::Begins { .. }) => "0".to_string(),
+            Verdict::Exactly(Answer::Begins { .. }) => "0, place as many as asked for".to_string(),
             Verdict::Exactly(Answer::Homeless { place }) => format!("10, place {place}"),
             Verdict::Exactly(Answer::Refused { place, refusal }) => {
                 format!("11, place {place}: {}", refusal.description())

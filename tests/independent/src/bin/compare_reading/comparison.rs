@@ -1,11 +1,11 @@
 //! One question at a time, put to the proved archives and to the independent
 //! reading. The first difference is printed and ends the program.
 
-use crate::kinds::{cut_in, fault_in, Counts, Kind};
-use independent::archives;
-use independent::bytes::Service;
-use independent::machine::state_after;
-use independent::reading::{find_in_segment, read_message, read_segment, Part, Segment};
+use crate::kinds::{Counts, Kind};
+use independent::archives::{self, SUPPOSED_ENTRIES};
+use independent::judging::plain::judge_message;
+use independent::judging::Record;
+use independent::reading::{find_in_segment, read_segment, read_segments, Part, Segment};
 use std::fmt::Debug;
 use std::process::exit;
 
@@ -33,36 +33,52 @@ impl Comparison {
         &self.counts
     }
 
-    /// The number of segments, number 4's place, and every segment's start.
+    /// The number and place of the text as a message, and every segment's start.
     pub fn compare_text(&mut self, text: &[u8]) {
-        let read = read_message(text);
-        let (segments, place) = match &read {
-            Ok(segments) => (segments.len(), text.len() + 1),
-            Err(place) => (0, *place),
-        };
-        require_equal(
-            text,
-            place,
-            "number of segments (0: not well-formed)",
-            segments,
-            archives::segments(text),
-        );
-        require_equal(
-            text,
-            place,
-            "number 4's place (length + 1: well-formed)",
-            place,
-            archives::bad_place(text),
-        );
-        self.counts.add(kind_of_text(text, segments, place));
-        self.compare_starts(text);
+        let (segments, fault) = read_segments(text);
+        let record = self.compare_message(text, &segments, fault);
+        self.compare_starts(text, &segments);
+        // Number 7 does not show how many segments there are.
+        if record.number == 7 {
+            self.compare_enveloped(text, segments.len());
+        }
+    }
+
+    /// The number and place alone. Answers what had to come out.
+    pub fn compare_answer(&mut self, text: &[u8]) -> Record {
+        let (segments, fault) = read_segments(text);
+        self.compare_message(text, &segments, fault)
+    }
+
+    fn compare_message(
+        &mut self,
+        text: &[u8],
+        segments: &[Segment],
+        fault: Option<usize>,
+    ) -> Record {
+        let record = judge_message(text, segments, fault, SUPPOSED_ENTRIES);
+        let expected = (record.number, record.place);
+        let answered = archives::judge_message(text);
+        if answered != expected {
+            let near = fault.unwrap_or(text.len());
+            report(text, near, "number and place", &expected, &answered);
+        }
+        let kind = Kind::of_message(text, segments, record);
+        self.counts.add_message(kind, record.number);
+        record
+    }
+
+    /// The segments between UNH and UNT, with the right count.
+    fn compare_enveloped(&mut self, text: &[u8], segments: usize) {
+        let closing = format!("UNT+{}+1'", segments + 2);
+        self.compare_answer(&[b"UNH+1'", text, closing.as_bytes()].concat());
     }
 
     /// Goes from start to start until no well-formed segment follows.
-    fn compare_starts(&mut self, text: &[u8]) {
+    fn compare_starts(&mut self, text: &[u8], segments: &[Segment]) {
         let mut at = 0;
-        while let Ok(segment) = read_segment(text, at) {
-            self.compare_next(text, at, Some(&segment));
+        for segment in segments {
+            self.compare_next(text, at, Some(segment));
             at = segment.end;
         }
         self.compare_next(text, at, None);
@@ -135,20 +151,6 @@ fn table_with(part: Part, length: usize) -> Table {
     table
 }
 
-fn kind_of_text(text: &[u8], segments: usize, place: usize) -> Kind {
-    if segments > usize::from(u16::MAX) {
-        Kind::SegmentsBeyond16Bits
-    } else if segments > 1 {
-        Kind::SeveralSegments
-    } else if segments == 1 {
-        Kind::OneSegment
-    } else if place < text.len() {
-        fault_in(state_after(Service::STANDARD, &text[..place]), place)
-    } else {
-        cut_in(state_after(Service::STANDARD, text))
-    }
-}
-
 fn kind_of_lookup(
     text: &[u8],
     at: usize,
@@ -180,16 +182,10 @@ fn kind_of_lookup(
         Kind::PresentBeyond8Bits
     } else if found.start == found.end {
         Kind::PresentEmpty
-    } else if found.value.len() < found.end - found.start {
+    } else if found.is_released() {
         Kind::PresentReleased
     } else {
         Kind::PresentPlain
-    }
-}
-
-fn require_equal(text: &[u8], near: usize, question: &str, expected: usize, answered: usize) {
-    if expected != answered {
-        report(text, near, question, &expected, &answered);
     }
 }
 

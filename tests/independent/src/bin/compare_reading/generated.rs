@@ -101,7 +101,7 @@ fn message(random: &mut Random, is_enough: impl Fn(SoFar) -> bool) -> Vec<u8> {
     }
 }
 
-fn write_segment(random: &mut Random, text: &mut Vec<u8>) {
+pub fn write_segment(random: &mut Random, text: &mut Vec<u8>) {
     for _ in 0..3 {
         text.push(byte_such_that(random, is_tag_byte));
     }
@@ -117,7 +117,7 @@ fn write_segment(random: &mut Random, text: &mut Vec<u8>) {
 }
 
 /// A change, a loss, an insertion or a cut at some byte.
-fn damage(random: &mut Random, text: &mut Vec<u8>) {
+pub fn damage(random: &mut Random, text: &mut Vec<u8>) {
     if text.is_empty() {
         text.push(random.byte());
         return;

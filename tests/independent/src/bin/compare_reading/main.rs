@@ -1,8 +1,10 @@
-//! Compares the proved archives with the independent reading: the number of
-//! segments, number 4's place, where segments start, and where components lie.
-//! Stops at the first difference with exit status 1. `compare_reading [SEED]`
+//! Compares the proved archives with the independent reading: what the numbers
+//! 3 to 9 say of a message alone, where segments start, and where components
+//! lie. Stops at the first difference with exit status 1.
+//! `compare_reading [SEED]`
 
 mod comparison;
+mod enveloped;
 mod exhaustive;
 mod generated;
 mod kinds;
@@ -20,10 +22,32 @@ fn main() -> ExitCode {
     };
     println!("compare_reading: seed {seed}");
     let mut comparison = Comparison::new();
-    exhaustive::compare_all(&mut comparison);
-    generated::compare_all(&mut comparison, &mut Random::from_seed(seed));
-    wide::compare_all(&mut comparison);
+    let random = &mut Random::from_seed(seed);
+    compare_family(&mut comparison, "short texts", exhaustive::compare_all);
+    compare_family(&mut comparison, "random texts", |comparison| {
+        generated::compare_all(comparison, random)
+    });
+    compare_family(&mut comparison, "wide texts", wide::compare_all);
+    compare_family(
+        &mut comparison,
+        "short envelopes",
+        enveloped::compare_every_short_one,
+    );
+    compare_family(&mut comparison, "random envelopes", |comparison| {
+        enveloped::compare_random_ones(comparison, random)
+    });
+    compare_family(&mut comparison, "wide envelopes", wide::compare_envelopes);
+    conclude(&comparison)
+}
 
+fn compare_family(comparison: &mut Comparison, name: &str, compare: impl FnOnce(&mut Comparison)) {
+    let before = comparison.counts().total();
+    compare(comparison);
+    let cases = comparison.counts().total() - before;
+    println!("{cases:>12}  cases of {name}");
+}
+
+fn conclude(comparison: &Comparison) -> ExitCode {
     let counts = comparison.counts();
     counts.print();
     if let Some(missing) = counts.first_missing() {

@@ -2,7 +2,7 @@
 use native.Mathlib.Omega.{arith}
 use mathlib.Core.Path.{_∙_, sym, ap}
 use borrow.Author.Needs.{needs}
-use Rattle.reading.specs.Machine.{foundBy}
+use Rattle.reading.specs.method.Machine.{foundBy}
 use Rattle.reading.proofs.Ending.{end-within}
 use Rattle.reading.proofs.cursor.Cursor.next_segment.Statement.{statement}
 use Rattle.reading.proofs.cursor.Cursor.next_segment.Tie as tie

@@ -1,0 +1,25 @@
+-- `layout::row_at` meets its contract: the edition's sizes are those of the meaning.
+use native.Mathlib.Omega.{arith}
+use mathlib.Core.Path.{_∙_, refl}
+use borrow.Author.Needs.{needs}
+use Rattle.book.proofs.Joining.{places}
+use Rattle.book.proofs.layout.row_at.Statement.{statement}
+use Rattle.book.proofs.layout.row_at.Tie as tie
+
+edition-of-requires : tie.Need-edition-of-requires
+edition-of-requires c κs = search needs
+
+u16-at-requires : tie.Need-u16-at-requires
+u16-at-requires c κs = search needs
+
+cast-from : tie.Need-cast-from
+cast-from c = search needs
+
+behind-requires : tie.Need-behind-requires
+behind-requires c κs = search needs
+
+returns : tie.Need-returns
+returns c = (c .behind .ensures .0 ∙ places (c .before .u16-at .ensures .0) (c .before .before .edition-of .ensures .row) refl, omega (arith, c .behind .ensures .1, c .before .u16-at .ensures .1))
+
+pub row-at-spec : {M : Type 1} → statement M
+row-at-spec = tie.close (tie.spec edition-of-requires u16-at-requires cast-from behind-requires returns)

@@ -1,0 +1,50 @@
+-- What the exported calls mean, under the standard service characters: a component lies where 01 says, and what is written into a
+-- lent table is 01's "as many as fit, with nothing else there changed".
+use Prim.Native.Nat.{ℕ, suc, _≤_}
+use mathlib.Core.Path.{_≡_, refl, ap, _∙_}
+use mathlib.Core.List.{List, [], _∷_}
+use lib.ListN.{length, take, drop}
+use lib.Seq.{take-all}
+use Rattle.framing.specs.meaning.Record.{numbersOf}
+use Rattle.framing.specs.declared.verdict.Verdict.{Verdict}
+use Rattle.reading.specs.meaning.Service.{standard}
+use Rattle.reading.specs.meaning.Component.{ComponentPlace, Lies, spanOf}
+use Rattle.reading.specs.method.Machine.{componentSpan}
+use Rattle.reading.specs.declared.span.Span.{Span}
+use Rattle.reading_laws.proofs.Services.{good-standard}
+use Rattle.reading_laws.proofs.Spans.{lies, lies-at}
+use Rattle.tracksaddle.specs.meaning.Door.{asManyAsFit, partNumbers}
+
+-- the table that `tracksaddle_find_component` promises holds the place where the component lies
+pub find-component-means : (message table : List ℕ) (at e c : ℕ) (p : ComponentPlace) → Lies standard message at e c p
+    → asManyAsFit (partNumbers (componentSpan standard message at e c)) table ≡ asManyAsFit (partNumbers (spanOf (length message) p)) table
+find-component-means message table at e c p l = ap (λ (x : Span). asManyAsFit (partNumbers x) table) (lies-at standard good-standard message at e c p l)
+
+-- and it lies somewhere, whatever the bytes and the numbers
+pub component-lies : (message : List ℕ) (at e c : ℕ) → (p : ComponentPlace) × Lies standard message at e c p
+component-lies = lies standard good-standard
+
+-- the first entries are the numbers, as many as there are entries
+pub front-fits : (numbers table : List ℕ) → take (length numbers) (asManyAsFit numbers table) ≡ take (length table) numbers
+unfolding asManyAsFit
+front-fits [] [] = refl
+front-fits [] (entry ∷ table) = refl
+front-fits (number ∷ numbers) [] = refl
+front-fits (number ∷ numbers) (entry ∷ table) = ap (_∷_ number) (front-fits numbers table)
+
+-- the entries behind them, and how many there are, stay
+pub rest-stays : (numbers table : List ℕ) → drop (length numbers) (asManyAsFit numbers table) ≡ drop (length numbers) table
+unfolding asManyAsFit
+rest-stays [] table = refl
+rest-stays (number ∷ numbers) [] = refl
+rest-stays (number ∷ numbers) (entry ∷ table) = rest-stays numbers table
+
+pub length-stays : (numbers table : List ℕ) → length (asManyAsFit numbers table) ≡ length table
+unfolding asManyAsFit
+length-stays [] table = refl
+length-stays (number ∷ numbers) [] = refl
+length-stays (number ∷ numbers) (entry ∷ table) = ap suc (length-stays numbers table)
+
+-- a lent record of six entries or more holds all of the verdict's numbers
+pub whole-record : (v : Verdict) (table : List ℕ) → 6 ≤ length table → take 6 (asManyAsFit (numbersOf v) table) ≡ numbersOf v
+whole-record v table room = front-fits (numbersOf v) table ∙ take-all (length table) (numbersOf v) room

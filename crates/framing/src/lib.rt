@@ -1,0 +1,11 @@
+// The message alone, without a guide book: numbers 3 to 9 of 01's table, and the record in which every stage answers.
+// 01, "Verdict numbers"; to be read in this order: verdict, table, survey (numbers 4 and 7), message.
+mod message;
+mod survey;
+pub mod table;
+mod verdict;
+
+pub use message::Room;
+pub use message::message_stage;
+pub use verdict::Place;
+pub use verdict::Verdict;

@@ -1,0 +1,5 @@
+-- What numbers 3 to 9 mean.
+pub mod InStages
+pub mod MessageMeans
+pub mod MessageTells
+pub mod OneOutcome

@@ -1,0 +1,17 @@
+-- Law one-outcome: for each public call of the message alone, two outcomes that meet its promise are equal.
+-- The promises are the contracts of src/ themselves, as the check reads them (`Reads`), and no copies.
+use mathlib.Core.Path.{_≡_, sym, _∙_}
+use Rattle.reading_laws.proofs.OneOutcome.{One}
+use Rattle.framing.proofs.verdict.Verdict.answer.Reads as answer
+use Rattle.framing.proofs.table.put.Reads as put
+use Rattle.framing.proofs.message_stage.Reads as message-stage
+
+pub one-answer : One answer.Post
+one-answer κs a r q x y m n = m ∙ sym n
+
+-- the table is the first argument
+pub one-put : (κs : _) (a : _) (r q : _) (x y : _) → put.Post κs a r x → put.Post κs a q y → x .0 .now ≡ y .0 .now
+one-put κs a r q x y m n = m ∙ sym n
+
+pub one-message-stage : One message-stage.Post
+one-message-stage κs a r q x y m n = m ∙ sym n

@@ -1,0 +1,2 @@
+-- That the promises of the probes have one outcome.
+pub mod OneOutcome

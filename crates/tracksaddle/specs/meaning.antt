@@ -1,0 +1,2 @@
+-- What the C door writes into lent tables.
+pub mod Door
