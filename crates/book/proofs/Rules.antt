@@ -4,10 +4,11 @@ use native.Mathlib.Omega.{arith}
 use native.Mathlib.Nat.{mul-le-mul-left, mul-le-mul-right}
 use native.Mathlib.Numerals.{add-one}
 use mathlib.Core.Path.{_≡_, refl, sym, ap, ap₂, _∙_}
-use mathlib.Core.Logic.{_⊎_, inl, inr}
-use mathlib.Core.Bool.{Bool, true, false, true≢false, false≢true, not, _&&_, _||_}
+use mathlib.Core.Logic.{inl, inr}
+use mathlib.Core.Bool.{Bool, true, false, true≢false, not, _&&_, _||_}
 use lib.Dec.{eqb}
-use borrow.Author.Tests.{eq-eqb, eqb-true, eqb-false, leb-true, le-leb, not-true}
+use borrow.Author.Tests.{eq-eqb, eqb-true, eqb-false, leb-true, le-leb}
+use Rattle.reading.proofs.Booleans.{both, left, right, one-of, or-left, or-right, denied, refuted}
 use Rattle.book.specs.meaning.Rule.{Rule, _≐_, _≼_, _and_, _or_, _⇒_, never, every, Holds, run, all}
 
 pub product-small : (a b : ℕ) → a < 65536 → b < 65536 → a * b < 2 ^ 32
@@ -27,14 +28,6 @@ product-within a b h = mul-le-mul-right b (below a h)
 
 -- ---- Booleans
 
-pub and-left : (a b : Bool) → (a && b) ≡ true → a ≡ true
-and-left true b e = refl
-and-left false b e = absurd (false≢true e)
-
-pub and-right : (a b : Bool) → (a && b) ≡ true → b ≡ true
-and-right true b e = e
-and-right false b e = absurd (false≢true e)
-
 pub ends-in-false : (a b : Bool) → b ≡ false → (a && b) ≡ false
 ends-in-false true b e = e
 ends-in-false false b e = refl
@@ -42,28 +35,6 @@ ends-in-false false b e = refl
 pub ends-in-true : (a b : Bool) → b ≡ true → (a && b) ≡ a
 ends-in-true true b e = e
 ends-in-true false b e = refl
-
-pub both : (a b : Bool) → a ≡ true → b ≡ true → (a && b) ≡ true
-both a b p q = simp (p, q)
-
-one-of : (a b : Bool) → (a || b) ≡ true → (a ≡ true) ⊎ (b ≡ true)
-one-of true b e = inl refl
-one-of false b e = inr e
-
-or-left : (a b : Bool) → a ≡ true → (a || b) ≡ true
-or-left a b p = simp p
-
-or-right : (a b : Bool) → b ≡ true → (a || b) ≡ true
-or-right true b p = refl
-or-right false b p = p
-
-refuted : (a : Bool) → (a ≡ true → ⊥) → not a ≡ true
-refuted true h = absurd (h refl)
-refuted false h = refl
-
-denied : (a : Bool) → not a ≡ true → a ≡ true → ⊥
-denied true e h = false≢true e
-denied false e h = false≢true h
 
 when : (a b : Bool) → (a ≡ true → b ≡ true) → (not a || b) ≡ true
 when true b h = h refl
@@ -119,10 +90,10 @@ all-holds : (P : ℕ → Type 0) (test : ℕ → Bool) → ((i : ℕ) → test i
 unfolding all
 all-holds P test f zero first e i p q = absurd (omega arith)
 all-holds P test f (suc count) first e i p q =
-    go (eqb i first) refl (all-holds P test f count (suc first) (and-right (test first) (all (suc first) count test) e) i)
+    go (eqb i first) refl (all-holds P test f count (suc first) (right (test first) (all (suc first) count test) e) i)
   where
     go : (v : Bool) → eqb i first ≡ v → (suc first ≤ i → i < suc first + count → P i) → P i
-    go true h ih = f i (rw (eqb-true i first h) (and-left (test first) (all (suc first) count test) e))
+    go true h ih = f i (rw (eqb-true i first h) (left (test first) (all (suc first) count test) e))
     go false h ih = let other = eqb-false i first h in ih (omega arith) (omega arith)
 
 holds-all : (P : ℕ → Type 0) (test : ℕ → Bool) → ((i : ℕ) → P i → test i ≡ true) → (count first : ℕ)
@@ -130,7 +101,7 @@ holds-all : (P : ℕ → Type 0) (test : ℕ → Bool) → ((i : ℕ) → P i �
 unfolding all
 holds-all P test f zero first h = refl
 holds-all P test f (suc count) first h =
-    both (test first) (all (suc first) count test) (f first (h first (omega arith) (omega arith)))
+    both (f first (h first (omega arith) (omega arith)))
     (holds-all P test f count (suc first) (λ i p q. h i (omega arith) (omega arith)))
 
 -- ---- to run a rule decides it
@@ -139,19 +110,19 @@ mutual
   pub run-holds : (r : Rule) → run r ≡ true → Holds r
   run-holds (a ≐ b) e = eqb-true a b e
   run-holds (a ≼ b) e = leb-true a b e
-  run-holds (r and s) e = (run-holds r (and-left (run r) (run s) e), run-holds s (and-right (run r) (run s) e))
+  run-holds (r and s) e = (run-holds r (left (run r) (run s) e), run-holds s (right (run r) (run s) e))
   run-holds (r or s) e = elim (one-of (run r) (run s) e) [ inl x ↦ inl (run-holds r x) | inr x ↦ inr (run-holds s x) ]
-  run-holds (r ⇒ s) e = λ h. elim (one-of (not (run r)) (run s) e) [ inl x ↦ absurd (denied (run r) x (holds-run r h)) | inr x ↦ run-holds s x ]
-  run-holds (never r) e = λ h. denied (run r) e (holds-run r h)
+  run-holds (r ⇒ s) e = λ h. elim (one-of (not (run r)) (run s) e) [ inl x ↦ absurd (true≢false (sym (holds-run r h) ∙ denied (run r) x)) | inr x ↦ run-holds s x ]
+  run-holds (never r) e = λ h. true≢false (sym (holds-run r h) ∙ denied (run r) e)
   run-holds (every first count r) e = all-holds (λ i. Holds (r i)) (λ i. run (r i)) (λ i. run-holds (r i)) count first e
 
   pub holds-run : (r : Rule) → Holds r → run r ≡ true
   holds-run (a ≐ b) h = eq-eqb a b h
   holds-run (a ≼ b) h = le-leb a b h
-  holds-run (r and s) h = both (run r) (run s) (holds-run r (h .0)) (holds-run s (h .1))
+  holds-run (r and s) h = both (holds-run r (h .0)) (holds-run s (h .1))
   holds-run (r or s) h = elim h [ inl x ↦ or-left (run r) (run s) (holds-run r x) | inr x ↦ or-right (run r) (run s) (holds-run s x) ]
   holds-run (r ⇒ s) h = when (run r) (run s) (λ e. holds-run s (h (run-holds r e)))
-  holds-run (never r) h = refuted (run r) (λ e. h (run-holds r e))
+  holds-run (never r) h = ap not (refuted (run r) (λ e. h (run-holds r e)))
   holds-run (every first count r) h = holds-all (λ i. Holds (r i)) (λ i. run (r i)) (λ i. holds-run (r i)) count first h
 
 -- what is not run does not hold
@@ -160,7 +131,7 @@ run-fails r e h = true≢false (sym (holds-run r h) ∙ e)
 
 -- what does not hold is not run
 pub fails-run : (r : Rule) → (Holds r → ⊥) → run r ≡ false
-fails-run r h = not-true (run r) (refuted (run r) (λ e. h (run-holds r e)))
+fails-run r h = refuted (run r) (λ e. h (run-holds r e))
 
 -- where the first part of "if .. then" is known
 pub when-false : (a b : Bool) → a ≡ false → true ≡ (not a || b)

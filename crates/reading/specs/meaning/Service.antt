@@ -47,7 +47,7 @@ isWordByte b = (leb 0x30 b && leb b 0x39) || (leb 0x41 b && leb b 0x5a) || (leb 
 
 -- A good set, which the laws about the grammar assume: data bytes, no two the same, and no word byte is one that must be released.
 -- 02 (T-03) asks more of a file's own, of the decimal mark too: "must not be letters, digits, space, `-`", "and only the decimal
--- mark may be `.`"; what the laws need of that mark is GoodMark (fields/specs/Number.antt).
+-- mark may be `.`"; what the laws need of that mark is GoodMark (fields/specs/meaning/Number.antt).
 pub record GoodService (s : Service) : Type 0 where
   pub bytes : All IsData (five s)
   pub different : Different (five s)

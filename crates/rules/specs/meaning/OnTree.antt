@@ -1,5 +1,5 @@
 -- The rules of a Prüfidentifikator, said of the placement tree. 01: "Rows apply once per instance of the line's parent (once for the
--- root). A line is present there if it has at least one segment or instance." The law rules-on-tree (proofs/OnTree.antt) says that
+-- root). A line is present there if it has at least one segment or instance." The law rules-on-tree (rules_laws/proofs/OnTree.antt) says that
 -- in a good book no row of FirstRow.antt is broken then, and only then.
 use Prim.Native.Nat.{ℕ, suc}
 use mathlib.Core.Path.{_≡_}

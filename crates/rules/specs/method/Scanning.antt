@@ -1,5 +1,5 @@
 -- The first row as the code finds it, for any book, conditions and homes: line by line, in one pass over the homes, with what a row
--- comes to worked out once for a line. The law scanned (proofs/Scanned.antt) says that in a good book, for the homes of a placed
+-- comes to worked out once for a line. The law scanned (rules_laws/proofs/Scanned.antt) says that in a good book, for the homes of a placed
 -- message, this is the first row of FirstRow.antt.
 use Prim.Native.Nat.{ℕ, zero, suc}
 use mathlib.Core.List.{List, [], _∷_}

@@ -28,7 +28,12 @@ returns-3 : tie.Need-returns-3
 returns-3 c = frame-bad _ (sym (c .before .frame-is-good .ensures) ∙ not-true _ (c .if3 .taken))
 
 returns-4 : tie.Need-returns-4
-returns-4 c = all-good _ (sym (c .before .before .before .before .before .header-is-good .ensures) ∙ not-false _ (c .before .before .before .before .if1 .left)) (sym (c .before .before .before .records-are-good .ensures) ∙ not-false _ (c .before .before .if2 .left)) (sym (c .before .frame-is-good .ensures) ∙ not-false _ (c .if3 .left))
+returns-4 c =
+    let if2 = c .before .before .if2 in
+    let if1 = c .before .before .before .before .if1 in
+    let records-are-good = c .before .before .before .records-are-good in
+    let header-is-good = c .before .before .before .before .before .header-is-good in
+    all-good _ (sym (header-is-good .ensures) ∙ not-false _ (if1 .left)) (sym (records-are-good .ensures) ∙ not-false _ (if2 .left)) (sym (c .before .frame-is-good .ensures) ∙ not-false _ (c .if3 .left))
 
 pub check-book-spec : {M : Type 1} → statement M
 check-book-spec =

@@ -22,7 +22,11 @@ every-requires c κs = search needs
 
 returns : tie.Need-returns
 unfolding risingFieldsRule
-returns c = c .every .ensures ∙ ap₂ (λ (f n : ℕ). run (every f n (fieldRises (guideOf (c .before .before .before .before .before .args .book .now))))) (c .before .before .before .first-field .ensures .0) (c .before .less .ensures .0 ∙ ap (λ (n : ℕ). n - 1) (c .before .before .field-count .ensures .0))
+returns c =
+    let field-count = c .before .before .field-count in
+    let first-field = c .before .before .before .first-field in
+    let args = c .before .before .before .before .before .args in
+    c .every .ensures ∙ ap₂ (λ (f n : ℕ). run (every f n (fieldRises (guideOf (args .book .now))))) (first-field .ensures .0) (c .before .less .ensures .0 ∙ ap (λ (n : ℕ). n - 1) (field-count .ensures .0))
 
 pub fields-rise-spec : {M : Type 1} → statement M
 fields-rise-spec = tie.close (tie.spec first-field-requires field-count-requires less-requires every-requires returns)

@@ -24,7 +24,12 @@ homes-are-good-requires c κs = search needs
 
 returns : tie.Need-returns
 unfolding framedRule
-returns c = both (c .before .before .before .before .has-frames .ensures) (both (c .before .before .before .has-carrier .ensures) (both (asked (structureRule (guideOf (c .before .before .before .before .before .before .args .book .now))) 1 (c .before .structures-are-good .ensures) (c .before .before .lines .ensures .0)) (c .homes-are-good .ensures)))
+returns c =
+    let lines = c .before .before .lines in
+    let has-carrier = c .before .before .before .has-carrier in
+    let has-frames = c .before .before .before .before .has-frames in
+    let args = c .before .before .before .before .before .before .args in
+    both (has-frames .ensures) (both (has-carrier .ensures) (both (asked (structureRule (guideOf (args .book .now))) 1 (c .before .structures-are-good .ensures) (lines .ensures .0)) (c .homes-are-good .ensures)))
 
 pub frame-is-good-spec : {M : Type 1} → statement M
 frame-is-good-spec = tie.close (tie.spec has-frames-requires has-carrier-requires lines-requires structures-are-good-requires homes-are-good-requires returns)

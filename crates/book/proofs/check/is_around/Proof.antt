@@ -25,7 +25,10 @@ every-requires c κs = search needs
 
 returns : tie.Need-returns
 unfolding aroundRule
-returns c = both (is groupKind (c .before .kind .ensures .0)) (both (as-is (leb (c .before .before .before .before .args .line + 1) (c .before .before .before .before .args .other))) (c .every .ensures ∙ ap (λ (n : ℕ). run (every (c .before .before .before .before .args .line + 1) n (deeperRule (guideOf (c .before .before .before .before .args .book .now)) (c .before .before .before .before .args .line)))) (c .before .before .less .ensures .0)))
+returns c =
+    let less = c .before .before .less in
+    let args = c .before .before .before .before .args in
+    both (is groupKind (c .before .kind .ensures .0)) (both (as-is (leb (args .line + 1) (args .other))) (c .every .ensures ∙ ap (λ (n : ℕ). run (every (args .line + 1) n (deeperRule (guideOf (args .book .now)) (args .line)))) (less .ensures .0)))
 
 pub is-around-spec : {M : Type 1} → statement M
 is-around-spec = tie.close (tie.spec add-next less-requires kind-requires every-requires returns)

@@ -22,7 +22,11 @@ suits-carrier-requires c κs = search needs
 
 returns : tie.Need-returns
 unfolding structureRule
-returns c = both (both (c .before .before .before .before .fields-rise .ensures) (both (c .before .before .before .has-trigger .ensures) (c .before .before .stays-or-falls .ensures))) (both (c .before .is-no-other-frame .ensures) (c .suits-carrier .ensures))
+returns c =
+    let stays-or-falls = c .before .before .stays-or-falls in
+    let has-trigger = c .before .before .before .has-trigger in
+    let fields-rise = c .before .before .before .before .fields-rise in
+    both (both (fields-rise .ensures) (both (has-trigger .ensures) (stays-or-falls .ensures))) (both (c .before .is-no-other-frame .ensures) (c .suits-carrier .ensures))
 
 pub structure-is-good-spec : {M : Type 1} → statement M
 structure-is-good-spec = tie.close (tie.spec fields-rise-requires has-trigger-requires stays-or-falls-requires is-no-other-frame-requires suits-carrier-requires returns)

@@ -23,19 +23,39 @@ structure-is-good-requires : tie.Need-structure-is-good-requires Inv-loop μ-loo
 structure-is-good-requires c κs = (omega (arith, (c .before .loop .inv .1), (c .before .before .before .pre .0), (c .loop-test .taken)), (c .before .before .before .pre .1))
 
 returns : tie.Need-returns Inv-loop μ-loop
-returns c = sym (all-fail (λ (i : ℕ). run (structureRule (guideOf ((c .before .before .before .before .before .args .book .now))) i)) (c .before .before .before .loop .line) (c .before .before .before .loop .left) (c .before .before .loop-test .taken) (sym (c .before .structure-is-good .ensures) ∙ not-true _ (c .if1 .taken))) ∙ (c .before .before .before .loop .inv .0)
+returns c =
+    let loop-test = c .before .before .loop-test in
+    let loop = c .before .before .before .loop in
+    let args = c .before .before .before .before .before .args in
+    sym (all-fail (λ (i : ℕ). run (structureRule (guideOf (args .book .now)) i)) (loop .line) (loop .left) (loop-test .taken) (sym (c .before .structure-is-good .ensures) ∙ not-true _ (c .if1 .taken))) ∙ (loop .inv .0)
 
 add-line : tie.Need-add-line Inv-loop μ-loop
-add-line c = omega (arith, (c .before .before .before .loop .inv .1), (c .before .before .before .before .before .pre), (c .before .before .loop-test .taken))
+add-line c =
+    let loop-test = c .before .before .loop-test in
+    let loop = c .before .before .before .loop in
+    let pre = c .before .before .before .before .before .pre in
+    omega (arith, (loop .inv .1), (pre), (loop-test .taken))
 
 sub-left : tie.Need-sub-left Inv-loop μ-loop
-sub-left c = omega (arith, (c .before .before .before .loop .inv .1), (c .before .before .before .before .before .pre), (c .before .before .loop-test .taken))
+sub-left c =
+    let loop-test = c .before .before .loop-test in
+    let loop = c .before .before .before .loop in
+    let pre = c .before .before .before .before .before .pre in
+    omega (arith, (loop .inv .1), (pre), (loop-test .taken))
 
 loop-less : tie.Need-loop-less Inv-loop μ-loop
-loop-less c = omega (arith, (c .before .before .before .loop .inv .1), (c .before .before .before .before .before .pre), (c .before .before .loop-test .taken))
+loop-less c =
+    let loop-test = c .before .before .loop-test in
+    let loop = c .before .before .before .loop in
+    let pre = c .before .before .before .before .before .pre in
+    omega (arith, (loop .inv .1), (pre), (loop-test .taken))
 
 loop-again : tie.Need-loop-again Inv-loop μ-loop
-loop-again c = (all-on (λ (i : ℕ). run (structureRule (guideOf ((c .before .before .before .before .before .args .book .now))) i)) (c .before .before .before .loop .line) (c .before .before .before .loop .left) (c .before .before .loop-test .taken) (sym (c .before .structure-is-good .ensures) ∙ not-false _ (c .if1 .left)) ∙ (c .before .before .before .loop .inv .0), omega (arith, (c .before .before .before .loop .inv .1), (c .before .before .loop-test .taken)))
+loop-again c =
+    let loop-test = c .before .before .loop-test in
+    let loop = c .before .before .before .loop in
+    let args = c .before .before .before .before .before .args in
+    (all-on (λ (i : ℕ). run (structureRule (guideOf (args .book .now)) i)) (loop .line) (loop .left) (loop-test .taken) (sym (c .before .structure-is-good .ensures) ∙ not-false _ (c .if1 .left)) ∙ (loop .inv .0), omega (arith, (loop .inv .1), (loop-test .taken)))
 
 returns-2 : tie.Need-returns-2 Inv-loop μ-loop
 returns-2 c = sym (all-end (λ (i : ℕ). run (structureRule (guideOf ((c .before .before .before .args .book .now))) i)) (c .before .loop .line) (c .before .loop .left) (c .loop-test .left)) ∙ (c .before .loop .inv .0)

@@ -26,7 +26,12 @@ implies-requires c κs = search needs
 
 returns : tie.Need-returns
 unfolding carrierGroupRule
-returns c = if-then (c .implies .ensures) (c .before .before .before .is-around .ensures ∙ ap (λ (l : ℕ). run (aroundRule (guideOf (c .before .before .before .before .before .before .args .book .now)) (c .before .before .before .before .before .before .args .line) l)) (c .before .before .before .before .carrier .ensures .0)) (both (is 1 (c .before .before .required .ensures .0)) (is 1 (c .before .maximum .ensures .0)))
+returns c =
+    let required = c .before .before .required in
+    let is-around = c .before .before .before .is-around in
+    let carrier = c .before .before .before .before .carrier in
+    let args = c .before .before .before .before .before .before .args in
+    if-then (c .implies .ensures) (is-around .ensures ∙ ap (λ (l : ℕ). run (aroundRule (guideOf (args .book .now)) (args .line) l)) (carrier .ensures .0)) (both (is 1 (required .ensures .0)) (is 1 (c .before .maximum .ensures .0)))
 
 pub suits-carrier-spec : {M : Type 1} → statement M
 suits-carrier-spec = tie.close (tie.spec carrier-requires is-around-requires required-requires maximum-requires implies-requires returns)

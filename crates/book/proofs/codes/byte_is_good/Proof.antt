@@ -32,7 +32,14 @@ implies-requires-2 c κs = search needs
 
 returns : tie.Need-returns
 unfolding codeByteRule
-returns c = let x = c .before .before .before .before .before .code-byte .ensures .0 in both (if-then (c .before .implies .ensures) (at-least (c .before .before .before .before .before .before .before .before .args .byte + 1) (c .before .before .before .before .before .before .code-length .ensures .0)) (either (lies-between 0x41 0x5a (c .before .before .before .before .is-capital .ensures) x) (either (lies-between 0x61 0x7a (c .before .before .before .is-small .ensures) x) (either (lies-between 0x30 0x39 (c .before .before .is-digit .ensures) x) (is 0x2e x))))) (if-then (c .implies2 .ensures) (at-most (c .before .before .before .before .before .before .before .before .args .byte) (c .before .before .before .before .before .before .code-length .ensures .0)) (is 0 x))
+returns c =
+    let is-digit = c .before .before .is-digit in
+    let is-small = c .before .before .before .is-small in
+    let is-capital = c .before .before .before .before .is-capital in
+    let code-byte = c .before .before .before .before .before .code-byte in
+    let code-length = c .before .before .before .before .before .before .code-length in
+    let args = c .before .before .before .before .before .before .before .before .args in
+    let x = code-byte .ensures .0 in both (if-then (c .before .implies .ensures) (at-least (args .byte + 1) (code-length .ensures .0)) (either (lies-between 0x41 0x5a (is-capital .ensures) x) (either (lies-between 0x61 0x7a (is-small .ensures) x) (either (lies-between 0x30 0x39 (is-digit .ensures) x) (is 0x2e x))))) (if-then (c .implies2 .ensures) (at-most (args .byte) (code-length .ensures .0)) (is 0 x))
 
 pub byte-is-good-spec : {M : Type 1} → statement M
 byte-is-good-spec = tie.close (tie.spec code-length-requires code-byte-requires add-implies is-capital-requires is-small-requires is-digit-requires implies-requires implies-requires-2 returns)

@@ -23,22 +23,44 @@ holds-requires : tie.Need-holds-requires Inv-loop μ-loop
 holds-requires c κs = (omega (arith, (c .before .loop .inv .1), (c .before .before .before .pre .0), (c .loop-test .taken)), (c .before .before .before .pre .1))
 
 returns : tie.Need-returns Inv-loop μ-loop
-returns c = sym (all-fail (λ (i : ℕ). run (ruleFor (c .before .before .before .before .before .args .each) (guideOf ((c .before .before .before .before .before .args .book .now))) (c .before .before .before .before .before .args .subject) i)) (c .before .before .before .loop .number) (c .before .before .before .loop .left) (c .before .before .loop-test .taken) (sym (c .before .holds .ensures) ∙ not-true _ (c .if1 .taken))) ∙ (c .before .before .before .loop .inv .0)
+returns c =
+    let loop-test = c .before .before .loop-test in
+    let loop = c .before .before .before .loop in
+    let args = c .before .before .before .before .before .args in
+    sym (all-fail (λ (i : ℕ). run (ruleFor (args .each) (guideOf (args .book .now)) (args .subject) i)) (loop .number) (loop .left) (loop-test .taken) (sym (c .before .holds .ensures) ∙ not-true _ (c .if1 .taken))) ∙ (loop .inv .0)
 
 add-number : tie.Need-add-number Inv-loop μ-loop
-add-number c = omega (arith, (c .before .before .before .loop .inv .1), (c .before .before .before .before .before .pre), (c .before .before .loop-test .taken))
+add-number c =
+    let loop-test = c .before .before .loop-test in
+    let loop = c .before .before .before .loop in
+    let pre = c .before .before .before .before .before .pre in
+    omega (arith, (loop .inv .1), (pre), (loop-test .taken))
 
 sub-left : tie.Need-sub-left Inv-loop μ-loop
-sub-left c = omega (arith, (c .before .before .before .loop .inv .1), (c .before .before .before .before .before .pre), (c .before .before .loop-test .taken))
+sub-left c =
+    let loop-test = c .before .before .loop-test in
+    let loop = c .before .before .before .loop in
+    let pre = c .before .before .before .before .before .pre in
+    omega (arith, (loop .inv .1), (pre), (loop-test .taken))
 
 loop-less : tie.Need-loop-less Inv-loop μ-loop
-loop-less c = omega (arith, (c .before .before .before .loop .inv .1), (c .before .before .before .before .before .pre), (c .before .before .loop-test .taken))
+loop-less c =
+    let loop-test = c .before .before .loop-test in
+    let loop = c .before .before .before .loop in
+    let pre = c .before .before .before .before .before .pre in
+    omega (arith, (loop .inv .1), (pre), (loop-test .taken))
 
 loop-again : tie.Need-loop-again Inv-loop μ-loop
-loop-again c = (all-on (λ (i : ℕ). run (ruleFor (c .before .before .before .before .before .args .each) (guideOf ((c .before .before .before .before .before .args .book .now))) (c .before .before .before .before .before .args .subject) i)) (c .before .before .before .loop .number) (c .before .before .before .loop .left) (c .before .before .loop-test .taken) (sym (c .before .holds .ensures) ∙ not-false _ (c .if1 .left)) ∙ (c .before .before .before .loop .inv .0), omega (arith, (c .before .before .before .loop .inv .1), (c .before .before .loop-test .taken)))
+loop-again c =
+    let loop-test = c .before .before .loop-test in
+    let loop = c .before .before .before .loop in
+    let args = c .before .before .before .before .before .args in
+    (all-on (λ (i : ℕ). run (ruleFor (args .each) (guideOf (args .book .now)) (args .subject) i)) (loop .number) (loop .left) (loop-test .taken) (sym (c .before .holds .ensures) ∙ not-false _ (c .if1 .left)) ∙ (loop .inv .0), omega (arith, (loop .inv .1), (loop-test .taken)))
 
 returns-2 : tie.Need-returns-2 Inv-loop μ-loop
-returns-2 c = sym (all-end (λ (i : ℕ). run (ruleFor (c .before .before .before .args .each) (guideOf ((c .before .before .before .args .book .now))) (c .before .before .before .args .subject) i)) (c .before .loop .number) (c .before .loop .left) (c .loop-test .left)) ∙ (c .before .loop .inv .0)
+returns-2 c =
+    let args = c .before .before .before .args in
+    sym (all-end (λ (i : ℕ). run (ruleFor (args .each) (guideOf (args .book .now)) (args .subject) i)) (c .before .loop .number) (c .before .loop .left) (c .loop-test .left)) ∙ (c .before .loop .inv .0)
 
 pub every-spec : {M : Type 1} → statement M
 every-spec =

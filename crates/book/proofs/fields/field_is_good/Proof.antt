@@ -44,7 +44,18 @@ is-range-requires c κs = search needs
 
 returns : tie.Need-returns
 unfolding fieldRule
-returns c = both (both (lies-between 1 255 (c .before .before .before .before .before .before .before .before .before .before .is-between .ensures) (c .before .before .before .before .before .before .before .before .before .before .before .element .ensures .0)) (both (lies-between 1 255 (c .before .before .before .before .before .before .before .before .is-between2 .ensures) (c .before .before .before .before .before .before .before .before .before .component .ensures .0)) (at-most withElementPresence (c .before .before .before .before .before .before .before .presence .ensures .0)))) (both (both (either (is textForm (c .before .before .before .before .before .before .form .ensures .0)) (is numberForm (c .before .before .before .before .before .before .form .ensures .0))) (both (at-least 1 (c .before .before .before .before .before .longest .ensures .0)) (is 0 (c .before .before .before .before .field-end .ensures .0)))) (in-range (c .is-range .ensures) (c .before .before .before .first-value .ensures .0) (c .before .before .value-count .ensures .0) (c .before .codes .ensures .0)))
+returns c =
+    let value-count = c .before .before .value-count in
+    let first-value = c .before .before .before .first-value in
+    let field-end = c .before .before .before .before .field-end in
+    let longest = c .before .before .before .before .before .longest in
+    let form = c .before .before .before .before .before .before .form in
+    let presence = c .before .before .before .before .before .before .before .presence in
+    let is-between2 = c .before .before .before .before .before .before .before .before .is-between2 in
+    let component = c .before .before .before .before .before .before .before .before .before .component in
+    let is-between = c .before .before .before .before .before .before .before .before .before .before .is-between in
+    let element = c .before .before .before .before .before .before .before .before .before .before .before .element in
+    both (both (lies-between 1 255 (is-between .ensures) (element .ensures .0)) (both (lies-between 1 255 (is-between2 .ensures) (component .ensures .0)) (at-most withElementPresence (presence .ensures .0)))) (both (both (either (is textForm (form .ensures .0)) (is numberForm (form .ensures .0))) (both (at-least 1 (longest .ensures .0)) (is 0 (field-end .ensures .0)))) (in-range (c .is-range .ensures) (first-value .ensures .0) (value-count .ensures .0) (c .before .codes .ensures .0)))
 
 pub field-is-good-spec : {M : Type 1} → statement M
 field-is-good-spec = tie.close (tie.spec element-requires is-between-requires component-requires is-between-requires-2 presence-requires form-requires longest-requires field-end-requires first-value-requires value-count-requires codes-requires is-range-requires returns)

@@ -32,7 +32,13 @@ gives-requires-5 c κs = search needs
 
 returns : tie.Need-returns
 unfolding blocksRule
-returns c = both (c .before .before .before .before .gives .ensures ∙ are-same refl (c .before .before .before .before .before .before .before .edition-of .ensures .header)) (both (c .before .before .before .gives2 .ensures ∙ are-same refl (c .before .before .before .before .before .before .blocks-of .ensures .codes)) (both (c .before .before .gives3 .ensures ∙ are-same refl (c .before .before .before .before .before .before .blocks-of .ensures .fields)) (both (c .before .gives4 .ensures ∙ are-same refl (c .before .before .before .before .before .before .blocks-of .ensures .identifiers)) (c .gives5 .ensures ∙ are-same refl (c .before .before .before .before .before .before .blocks-of .ensures .rows)))))
+returns c =
+    let gives3 = c .before .before .gives3 in
+    let gives2 = c .before .before .before .gives2 in
+    let gives = c .before .before .before .before .gives in
+    let blocks-of = c .before .before .before .before .before .before .blocks-of in
+    let edition-of = c .before .before .before .before .before .before .before .edition-of in
+    both (gives .ensures ∙ are-same refl (edition-of .ensures .header)) (both (gives2 .ensures ∙ are-same refl (blocks-of .ensures .codes)) (both (gives3 .ensures ∙ are-same refl (blocks-of .ensures .fields)) (both (c .before .gives4 .ensures ∙ are-same refl (blocks-of .ensures .identifiers)) (c .gives5 .ensures ∙ are-same refl (blocks-of .ensures .rows)))))
 
 pub blocks-are-good-spec : {M : Type 1} → statement M
 blocks-are-good-spec = tie.close (tie.spec edition-of-requires blocks-of-requires cast-gives gives-requires gives-requires-2 gives-requires-3 gives-requires-4 gives-requires-5 returns)

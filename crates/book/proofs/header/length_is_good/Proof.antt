@@ -15,7 +15,10 @@ gives-requires c κs = search needs
 
 returns : tie.Need-returns
 unfolding lengthRule
-returns c = both (as-is (leb (length (c .before .before .before .before .args .book .now)) 65535)) (both (c .before .gives .ensures) (is (length (c .before .before .before .before .args .book .now)) (c .before .before .blocks-of .ensures .end)))
+returns c =
+    let blocks-of = c .before .before .blocks-of in
+    let args = c .before .before .before .before .args in
+    both (as-is (leb (length (args .book .now)) 65535)) (both (c .before .gives .ensures) (is (length (args .book .now)) (blocks-of .ensures .end)))
 
 pub length-is-good-spec : {M : Type 1} → statement M
 length-is-good-spec = tie.close (tie.spec blocks-of-requires gives-requires returns)

@@ -32,7 +32,11 @@ loop-less : tie.Need-loop-less Inv-loop μ-loop
 loop-less c = omega (arith, (c .before .before .loop-test .taken))
 
 loop-again : tie.Need-loop-again Inv-loop μ-loop
-loop-again c = passed-on (guideOf (c .before .before .before .before .before .args .book .now)) (c .before .before .before .before .before .args .line) (c .before .before .before .loop .earlier) (c .before .before .loop-test .taken) (sym (c .before .have-same-tag .ensures) ∙ (c .if1 .left)) (c .before .before .before .loop .inv)
+loop-again c =
+    let loop-test = c .before .before .loop-test in
+    let loop = c .before .before .before .loop in
+    let args = c .before .before .before .before .before .args in
+    passed-on (guideOf (args .book .now)) (args .line) (loop .earlier) (loop-test .taken) (sym (c .before .have-same-tag .ensures) ∙ (c .if1 .left)) (loop .inv)
 
 returns-2 : tie.Need-returns-2 Inv-loop μ-loop
 returns-2 c = (c .before .loop .inv)

@@ -26,7 +26,9 @@ returns : tie.Need-returns Inv-loop μ-loop
 returns c = all-passed (guideOf (c .before .before .before .args .book .now)) (c .before .before .before .args .line) _ (c .if1 .taken) (c .before .first-of-its-tag .ensures)
 
 marks-of-requires : tie.Need-marks-of-requires Inv-loop μ-loop
-marks-of-requires c κs = ((c .before .before .before .pre .0), (c .before .before .before .pre .1 .line-codes) _ (c .before .before .before .pre .2) (c .before .before .before .pre .3))
+marks-of-requires c κs =
+    let pre = c .before .before .before .pre in
+    ((pre .0), (pre .1 .line-codes) _ (pre .2) (pre .3))
 
 sub-left : tie.Need-sub-left Inv-loop μ-loop
 sub-left c = omega (arith, (c .before .before .first-of-its-tag .ensures .within))
@@ -35,11 +37,19 @@ loop-holds : tie.Need-loop-holds Inv-loop μ-loop
 loop-holds c = ((c .before .before .first-of-its-tag .ensures .same), omega (arith, (c .before .before .first-of-its-tag .ensures .within)), (c .before .before .first-of-its-tag .ensures .some))
 
 is-pair-good-requires : tie.Need-is-pair-good-requires Inv-loop μ-loop
-is-pair-good-requires c κs = ((c .before .before .before .marks-of .ensures), (c .before .before .before .before .before .before .before .pre .1 .line-codes) _ (c .before .before .loop .inv .2) (omega (arith, (c .before .before .before .before .before .before .before .pre .3), (c .before .before .loop .inv .1))))
+is-pair-good-requires c κs =
+    let loop = c .before .before .loop in
+    let marks-of = c .before .before .before .marks-of in
+    let pre = c .before .before .before .before .before .before .before .pre in
+    ((marks-of .ensures), (pre .1 .line-codes) _ (loop .inv .2) (omega (arith, (pre .3), (loop .inv .1))))
 
 returns-2 : tie.Need-returns-2 Inv-loop μ-loop
 unfolding homeRule
-returns-2 c = sym (all-fail (λ (i : ℕ). run (pairRule (guideOf (c .before .before .before .before .before .before .before .before .before .args .book .now)) i (c .before .before .before .before .before .before .before .before .before .args .line))) (c .before .before .before .before .loop .earlier) (c .before .before .before .before .loop .left) (c .before .before .before .loop-test .taken) (sym (c .before .is-pair-good .ensures) ∙ not-true _ (c .if2 .taken))) ∙ (c .before .before .before .before .loop .inv .0)
+returns-2 c =
+    let loop-test = c .before .before .before .loop-test in
+    let loop = c .before .before .before .before .loop in
+    let args = c .before .before .before .before .before .before .before .before .before .args in
+    sym (all-fail (λ (i : ℕ). run (pairRule (guideOf (args .book .now)) i (args .line))) (loop .earlier) (loop .left) (loop-test .taken) (sym (c .before .is-pair-good .ensures) ∙ not-true _ (c .if2 .taken))) ∙ (loop .inv .0)
 
 add-earlier : tie.Need-add-earlier Inv-loop μ-loop
 add-earlier c = omega (arith, (c .before .before .before .before .loop .inv .1))
@@ -51,11 +61,17 @@ loop-less : tie.Need-loop-less Inv-loop μ-loop
 loop-less c = search needs
 
 loop-again : tie.Need-loop-again Inv-loop μ-loop
-loop-again c = (all-on (λ (i : ℕ). run (pairRule (guideOf (c .before .before .before .before .before .before .before .before .before .args .book .now)) i (c .before .before .before .before .before .before .before .before .before .args .line))) (c .before .before .before .before .loop .earlier) (c .before .before .before .before .loop .left) (c .before .before .before .loop-test .taken) (sym (c .before .is-pair-good .ensures) ∙ not-false _ (c .if2 .left)) ∙ (c .before .before .before .before .loop .inv .0), omega (arith, (c .before .before .before .before .loop .inv .1)), omega (arith, (c .before .before .before .before .loop .inv .2)))
+loop-again c =
+    let loop-test = c .before .before .before .loop-test in
+    let loop = c .before .before .before .before .loop in
+    let args = c .before .before .before .before .before .before .before .before .before .args in
+    (all-on (λ (i : ℕ). run (pairRule (guideOf (args .book .now)) i (args .line))) (loop .earlier) (loop .left) (loop-test .taken) (sym (c .before .is-pair-good .ensures) ∙ not-false _ (c .if2 .left)) ∙ (loop .inv .0), omega (arith, (loop .inv .1)), omega (arith, (loop .inv .2)))
 
 returns-3 : tie.Need-returns-3 Inv-loop μ-loop
 unfolding homeRule
-returns-3 c = sym (all-end (λ (i : ℕ). run (pairRule (guideOf (c .before .before .before .before .before .before .args .book .now)) i (c .before .before .before .before .before .before .args .line))) (c .before .loop .earlier) (c .before .loop .left) (c .loop-test .left)) ∙ (c .before .loop .inv .0)
+returns-3 c =
+    let args = c .before .before .before .before .before .before .args in
+    sym (all-end (λ (i : ℕ). run (pairRule (guideOf (args .book .now)) i (args .line))) (c .before .loop .earlier) (c .before .loop .left) (c .loop-test .left)) ∙ (c .before .loop .inv .0)
 
 pub has-one-home-spec : {M : Type 1} → statement M
 has-one-home-spec =

@@ -19,7 +19,10 @@ selector-component-requires-2 c κs = search needs
 
 returns : tie.Need-returns
 unfolding samePlaceRule
-returns c = both (at-least 1 (c .before .before .before .selector-element .ensures .0)) (both (are-same (c .before .before .before .selector-element .ensures .0) (c .before .selector-element2 .ensures .0)) (are-same (c .before .before .selector-component .ensures .0) (c .selector-component2 .ensures .0)))
+returns c =
+    let selector-component = c .before .before .selector-component in
+    let selector-element = c .before .before .before .selector-element in
+    both (at-least 1 (selector-element .ensures .0)) (both (are-same (selector-element .ensures .0) (c .before .selector-element2 .ensures .0)) (are-same (selector-component .ensures .0) (c .selector-component2 .ensures .0)))
 
 pub have-same-place-spec : {M : Type 1} → statement M
 have-same-place-spec = tie.close (tie.spec selector-element-requires selector-component-requires selector-element-requires-2 selector-component-requires-2 returns)

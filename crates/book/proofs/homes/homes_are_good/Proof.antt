@@ -27,13 +27,24 @@ loop-holds : tie.Need-loop-holds Inv-loop μ-loop
 loop-holds c = (ap (λ (n : ℕ). all 1 n (λ (i : ℕ). run (homeRule (guideOf ((c .before .before .before .args .book .now))) i))) (c .lines .ensures .0), omega (arith, (c .lines .ensures .0)), search needs)
 
 has-one-home-requires : tie.Need-has-one-home-requires Inv-loop μ-loop
-has-one-home-requires c κs = ((c .before .before .before .before .numbers-of .ensures), (c .before .before .before .before .before .before .pre), (c .before .before .loop .inv .2), omega (arith, (c .before .before .loop .inv .1)))
+has-one-home-requires c κs =
+    let loop = c .before .before .loop in
+    let numbers-of = c .before .before .before .before .numbers-of in
+    let pre = c .before .before .before .before .before .before .pre in
+    ((numbers-of .ensures), (pre), (loop .inv .2), omega (arith, (loop .inv .1)))
 
 returns : tie.Need-returns Inv-loop μ-loop
-returns c = sym (all-fail (λ (i : ℕ). run (homeRule (guideOf ((c .before .before .before .before .before .before .before .before .args .book .now))) i)) (c .before .before .before .before .loop .line) (c .before .before .before .before .loop .left) (c .before .before .before .loop-test .taken) (sym (c .before .has-one-home .ensures) ∙ not-true _ (c .if1 .taken))) ∙ (c .before .before .before .before .loop .inv .0)
+returns c =
+    let loop-test = c .before .before .before .loop-test in
+    let loop = c .before .before .before .before .loop in
+    let args = c .before .before .before .before .before .before .before .before .args in
+    sym (all-fail (λ (i : ℕ). run (homeRule (guideOf (args .book .now)) i)) (loop .line) (loop .left) (loop-test .taken) (sym (c .before .has-one-home .ensures) ∙ not-true _ (c .if1 .taken))) ∙ (loop .inv .0)
 
 add-line : tie.Need-add-line Inv-loop μ-loop
-add-line c = omega (arith, (c .before .before .before .before .loop .inv .1), (c .before .before .before .before .before .lines .ensures))
+add-line c =
+    let loop = c .before .before .before .before .loop in
+    let lines = c .before .before .before .before .before .lines in
+    omega (arith, (loop .inv .1), (lines .ensures))
 
 sub-left : tie.Need-sub-left Inv-loop μ-loop
 sub-left c = search needs
@@ -42,10 +53,16 @@ loop-less : tie.Need-loop-less Inv-loop μ-loop
 loop-less c = search needs
 
 loop-again : tie.Need-loop-again Inv-loop μ-loop
-loop-again c = (all-on (λ (i : ℕ). run (homeRule (guideOf ((c .before .before .before .before .before .before .before .before .args .book .now))) i)) (c .before .before .before .before .loop .line) (c .before .before .before .before .loop .left) (c .before .before .before .loop-test .taken) (sym (c .before .has-one-home .ensures) ∙ not-false _ (c .if1 .left)) ∙ (c .before .before .before .before .loop .inv .0), omega (arith, (c .before .before .before .before .loop .inv .1)), omega (arith, (c .before .before .before .before .loop .inv .2)))
+loop-again c =
+    let loop-test = c .before .before .before .loop-test in
+    let loop = c .before .before .before .before .loop in
+    let args = c .before .before .before .before .before .before .before .before .args in
+    (all-on (λ (i : ℕ). run (homeRule (guideOf (args .book .now)) i)) (loop .line) (loop .left) (loop-test .taken) (sym (c .before .has-one-home .ensures) ∙ not-false _ (c .if1 .left)) ∙ (loop .inv .0), omega (arith, (loop .inv .1)), omega (arith, (loop .inv .2)))
 
 returns-2 : tie.Need-returns-2 Inv-loop μ-loop
-returns-2 c = sym (all-end (λ (i : ℕ). run (homeRule (guideOf ((c .before .before .before .before .before .args .book .now))) i)) (c .before .loop .line) (c .before .loop .left) (c .loop-test .left)) ∙ (c .before .loop .inv .0)
+returns-2 c =
+    let args = c .before .before .before .before .before .args in
+    sym (all-end (λ (i : ℕ). run (homeRule (guideOf (args .book .now)) i)) (c .before .loop .line) (c .before .loop .left) (c .loop-test .left)) ∙ (c .before .loop .inv .0)
 
 pub homes-are-good-spec : {M : Type 1} → statement M
 homes-are-good-spec =

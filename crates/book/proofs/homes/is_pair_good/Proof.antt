@@ -26,7 +26,11 @@ has-no-code-of-requires c κs = search needs
 
 returns-3 : tie.Need-returns-3
 unfolding pairRule toldApartRule
-returns-3 c = when-true _ _ _ (sym (c .before .before .before .before .have-same-tag .ensures) ∙ not-false _ (c .before .before .before .if1 .left)) (goes-on _ _ _ (sym (c .before .before .have-same-place .ensures) ∙ not-false _ (c .before .if2 .left)) (c .has-no-code-of .ensures))
+returns-3 c =
+    let if1 = c .before .before .before .if1 in
+    let have-same-place = c .before .before .have-same-place in
+    let have-same-tag = c .before .before .before .before .have-same-tag in
+    when-true _ _ _ (sym (have-same-tag .ensures) ∙ not-false _ (if1 .left)) (goes-on _ _ _ (sym (have-same-place .ensures) ∙ not-false _ (c .before .if2 .left)) (c .has-no-code-of .ensures))
 
 pub is-pair-good-spec : {M : Type 1} → statement M
 is-pair-good-spec = tie.close (tie.spec have-same-tag-requires returns have-same-place-requires returns-2 has-no-code-of-requires returns-3)

@@ -38,7 +38,11 @@ element-copy-out-number : tie.Need-element-copy-out-number Inv-loop μ-loop
 element-copy-out-number c = omega (arith, (c .before .before .before .before .before .pre .0 .few))
 
 cast-marks : tie.Need-cast-marks Inv-loop μ-loop
-cast-marks c = let s = in-table _ _ (c .before .before .before .before .before .before .pre .0) ((c .before .before .before .before .first-code .result) + (c .before .before .loop .marked)) (omega arith) in omega arith
+cast-marks c =
+    let loop = c .before .before .loop in
+    let first-code = c .before .before .before .before .first-code in
+    let pre = c .before .before .before .before .before .before .pre in
+    let s = in-table _ _ (pre .0) ((first-code .result) + (loop .marked)) (omega arith) in omega arith
 
 array-write-marks : tie.Need-array-write-marks Inv-loop μ-loop
 array-write-marks c = in-table _ _ (c .before .before .before .before .before .before .pre .0) _ (omega arith)
@@ -50,10 +54,17 @@ loop-less : tie.Need-loop-less Inv-loop μ-loop
 loop-less c = search needs
 
 loop-again : tie.Need-loop-again Inv-loop μ-loop
-loop-again c = (search needs, (c .before .before .loop .inv .1), simp length-set (c .before .before .loop .inv .2), mark-one _ _ (c .before .before .before .before .before .before .pre .0) (c .before .before .loop .marks) _ _ (omega arith) (c .before .before .loop .inv .2) (c .before .before .loop .inv .3))
+loop-again c =
+    let loop = c .before .before .loop in
+    let pre = c .before .before .before .before .before .before .pre in
+    (search needs, (loop .inv .1), simp length-set (loop .inv .2), mark-one _ _ (pre .0) (loop .marks) _ _ (omega arith) (loop .inv .2) (loop .inv .3))
 
 returns : tie.Need-returns Inv-loop μ-loop
-returns c = mark-all _ _ (c .before .before .before .before .before .pre .0) _ _ _ _ (c .before .before .before .first-code .ensures .0) (omega (arith, (c .before .before .code-count .ensures .0))) (c .before .loop .inv .3)
+returns c =
+    let code-count = c .before .before .code-count in
+    let first-code = c .before .before .before .first-code in
+    let pre = c .before .before .before .before .before .pre in
+    mark-all _ _ (pre .0) _ _ _ _ (first-code .ensures .0) (omega (arith, (code-count .ensures .0))) (c .before .loop .inv .3)
 
 pub marks-of-spec : {M : Type 1} → statement M
 marks-of-spec =

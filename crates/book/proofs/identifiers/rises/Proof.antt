@@ -29,7 +29,11 @@ implies-requires c κs = search needs
 
 returns : tie.Need-returns
 unfolding identifierRises
-returns c = if-then (c .implies .ensures) (at-least (c .before .before .before .before .before .args .identifier + 1 + 1) (c .before .before .before .identifiers .ensures .0)) (rising (c .before .before .number-of .ensures .0) (c .before .number-of2 .ensures .0))
+returns c =
+    let number-of = c .before .before .number-of in
+    let identifiers = c .before .before .before .identifiers in
+    let args = c .before .before .before .before .before .args in
+    if-then (c .implies .ensures) (at-least (args .identifier + 1 + 1) (identifiers .ensures .0)) (rising (number-of .ensures .0) (c .before .number-of2 .ensures .0))
 
 pub rises-spec : {M : Type 1} → statement M
 rises-spec = tie.close (tie.spec add-next add-implies identifiers-requires number-of-requires add-implies-2 number-of-requires-2 implies-requires returns)

@@ -23,7 +23,9 @@ sub-result : tie.Need-sub-result
 sub-result c = search needs
 
 returns : tie.Need-returns
-returns c = (ap₂ _-_ (c .behind .ensures .0 ∙ places (c .before .before .edition-of .ensures .header) (c .before .before .edition-of .ensures .line) refl) (c .before .before .edition-of .ensures .line), omega (arith, c .behind .ensures .1, c .before .before .edition-of .ensures .header))
+returns c =
+    let edition-of = c .before .before .edition-of in
+    (ap₂ _-_ (c .behind .ensures .0 ∙ places (edition-of .ensures .header) (edition-of .ensures .line) refl) (edition-of .ensures .line), omega (arith, c .behind .ensures .1, edition-of .ensures .header))
 
 pub line-at-spec : {M : Type 1} → statement M
 line-at-spec = tie.close (tie.spec edition-of-requires cast-behind behind-requires cast-result sub-result returns)

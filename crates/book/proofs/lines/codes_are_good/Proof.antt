@@ -25,7 +25,12 @@ is-range-requires c κs = search needs
 
 returns : tie.Need-returns
 unfolding requiredRule codeRangeRule
-returns c = both (at-most 1 (c .before .before .before .required .ensures .0)) (both (c .before .before .selector-is-good .ensures) (in-range (c .is-range .ensures) (c .before .before .before .before .before .first-code .ensures .0) (c .before .before .before .before .code-count .ensures .0) (c .before .codes .ensures .0)))
+returns c =
+    let required = c .before .before .before .required in
+    let selector-is-good = c .before .before .selector-is-good in
+    let code-count = c .before .before .before .before .code-count in
+    let first-code = c .before .before .before .before .before .first-code in
+    both (at-most 1 (required .ensures .0)) (both (selector-is-good .ensures) (in-range (c .is-range .ensures) (first-code .ensures .0) (code-count .ensures .0) (c .before .codes .ensures .0)))
 
 pub codes-are-good-spec : {M : Type 1} → statement M
 codes-are-good-spec = tie.close (tie.spec first-code-requires code-count-requires required-requires selector-is-good-requires codes-requires is-range-requires returns)

@@ -35,7 +35,15 @@ implies-requires c κs = search needs
 
 returns : tie.Need-returns
 unfolding maximumRule fieldRangeRule groupRule
-returns c = both (lies-between 1 999999 (c .before .before .before .before .is-between .ensures) (c .before .before .before .before .before .maximum .ensures .0)) (both (in-range (c .before .before .is-range .ensures) (c .before .before .before .before .before .before .before .before .first-field .ensures .0) (c .before .before .before .before .before .before .before .field-count .ensures .0) (c .before .before .before .fields .ensures .0)) (if-then (c .implies .ensures) (is groupKind (c .before .kind .ensures .0)) (both (is 0 (c .before .before .before .before .before .before .code-count .ensures .0)) (is 0 (c .before .before .before .before .before .before .before .field-count .ensures .0)))))
+returns c =
+    let is-range = c .before .before .is-range in
+    let fields = c .before .before .before .fields in
+    let is-between = c .before .before .before .before .is-between in
+    let maximum = c .before .before .before .before .before .maximum in
+    let code-count = c .before .before .before .before .before .before .code-count in
+    let field-count = c .before .before .before .before .before .before .before .field-count in
+    let first-field = c .before .before .before .before .before .before .before .before .first-field in
+    both (lies-between 1 999999 (is-between .ensures) (maximum .ensures .0)) (both (in-range (is-range .ensures) (first-field .ensures .0) (field-count .ensures .0) (fields .ensures .0)) (if-then (c .implies .ensures) (is groupKind (c .before .kind .ensures .0)) (both (is 0 (code-count .ensures .0)) (is 0 (field-count .ensures .0)))))
 
 pub fields-are-good-spec : {M : Type 1} → statement M
 fields-are-good-spec = tie.close (tie.spec first-field-requires field-count-requires code-count-requires maximum-requires is-between-requires fields-requires is-range-requires kind-requires implies-requires returns)

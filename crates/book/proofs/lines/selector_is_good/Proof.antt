@@ -22,7 +22,11 @@ is-between-requires-2 c κs = search needs
 
 returns : tie.Need-returns
 unfolding selectorRule
-returns c = either (both (lies-between 1 255 (c .before .is-between .ensures) (c .before .before .before .before .selector-element .ensures .0)) (both (lies-between 1 255 (c .is-between2 .ensures) (c .before .before .before .selector-component .ensures .0)) (at-least 1 (c .before .before .code-count .ensures .0)))) (both (is 0 (c .before .before .before .before .selector-element .ensures .0)) (both (is 0 (c .before .before .before .selector-component .ensures .0)) (is 0 (c .before .before .code-count .ensures .0))))
+returns c =
+    let code-count = c .before .before .code-count in
+    let selector-component = c .before .before .before .selector-component in
+    let selector-element = c .before .before .before .before .selector-element in
+    either (both (lies-between 1 255 (c .before .is-between .ensures) (selector-element .ensures .0)) (both (lies-between 1 255 (c .is-between2 .ensures) (selector-component .ensures .0)) (at-least 1 (code-count .ensures .0)))) (both (is 0 (selector-element .ensures .0)) (both (is 0 (selector-component .ensures .0)) (is 0 (code-count .ensures .0))))
 
 pub selector-is-good-spec : {M : Type 1} → statement M
 selector-is-good-spec = tie.close (tie.spec selector-element-requires selector-component-requires code-count-requires is-between-requires is-between-requires-2 returns)

@@ -24,7 +24,12 @@ implies-requires-2 c κs = search needs
 
 returns : tie.Need-returns
 unfolding tagByteRule
-returns c = both (if-then (c .before .implies .ensures) (is segmentKind (c .before .before .before .before .kind .ensures .0)) (either (c .before .before .before .is-capital .ensures) (c .before .before .is-digit .ensures))) (if-then (c .implies2 .ensures) (is groupKind (c .before .before .before .before .kind .ensures .0)) (as-is (eqb (c .before .before .before .before .before .before .args .byte) 0)))
+returns c =
+    let is-digit = c .before .before .is-digit in
+    let is-capital = c .before .before .before .is-capital in
+    let kind = c .before .before .before .before .kind in
+    let args = c .before .before .before .before .before .before .args in
+    both (if-then (c .before .implies .ensures) (is segmentKind (kind .ensures .0)) (either (is-capital .ensures) (is-digit .ensures))) (if-then (c .implies2 .ensures) (is groupKind (kind .ensures .0)) (as-is (eqb (args .byte) 0)))
 
 pub tag-byte-is-good-spec : {M : Type 1} → statement M
 tag-byte-is-good-spec = tie.close (tie.spec kind-requires is-capital-requires is-digit-requires implies-requires implies-requires-2 returns)

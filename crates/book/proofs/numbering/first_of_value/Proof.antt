@@ -43,8 +43,10 @@ loop-less c = let h = not-there (λ (i : ℕ). getD (c .before .before .before .
 
 loop-again : tie.Need-loop-again Inv-loop μ-loop
 loop-again c =
-    let h = not-there (λ (i : ℕ). getD (c .before .before .before .before .args .values .now) i 0) _ _ (c .before .before .loop .inv .0) (c .if1 .taken) in
-    (omega arith, below-more _ _ (c .before .before .loop .inv .1) (c .if1 .taken))
+    let loop = c .before .before .loop in
+    let args = c .before .before .before .before .args in
+    let h = not-there (λ (i : ℕ). getD (args .values .now) i 0) _ _ (loop .inv .0) (c .if1 .taken) in
+    (omega arith, below-more _ _ (loop .inv .1) (c .if1 .taken))
 
 returns : tie.Need-returns Inv-loop μ-loop
 returns c = record { at-most = c .before .before .loop .inv .0; same = c .if1 .left; none-before = c .before .before .loop .inv .1 }

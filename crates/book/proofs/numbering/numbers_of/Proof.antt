@@ -58,19 +58,26 @@ loop-less c = search needs
 
 loop-again : tie.Need-loop-again Inv-loop μ-loop
 loop-again c =
-    let g = guideOf (c .before .before .before .before .before .before .before .args .book .now) in
-    let code = c .before .before .before .before .loop .code in
-    let inv = c .before .before .before .before .loop .inv in
-    let read = stored (λ (i x : ℕ). x ≡ wholeCode g i) (c .before .before .before .before .loop .codes) code (c .before .before .whole-code .result) (search needs) (inv .3) (c .before .before .whole-code .ensures) in (
+    let whole-code = c .before .before .whole-code in
+    let loop = c .before .before .before .before .loop in
+    let args = c .before .before .before .before .before .before .before .args in
+    let g = guideOf (args .book .now) in
+    let code = loop .code in
+    let inv = loop .inv in
+    let read = stored (λ (i x : ℕ). x ≡ wholeCode g i) (loop .codes) code (whole-code .result) (search needs) (inv .3) (whole-code .ensures) in (
       search needs,
       simp length-set (inv .1),
       simp length-set (inv .2),
       read,
-      stored (FirstOf (wholeCode g)) (c .before .before .before .before .loop .numbers) code (c .first-of-value .result) (search needs) (inv .4) (first-agrees _ (wholeCode g) code _ read (c .first-of-value .ensures)),
+      stored (FirstOf (wholeCode g)) (loop .numbers) code (c .first-of-value .result) (search needs) (inv .4) (first-agrees _ (wholeCode g) code _ read (c .first-of-value .ensures)),
     )
 
 returns : tie.Need-returns Inv-loop μ-loop
-returns c = numbered _ _ (low-small _ (λ k. omega (arith, c .before .before .before .shared-slice-known .given k))) (λ d h. c .before .loop .inv .4 d (omega (arith, c .before .before .codes .ensures .0))) (c .before .before .before .before .pre)
+returns c =
+    let codes = c .before .before .codes in
+    let pre = c .before .before .before .before .pre in
+    let shared-slice-known = c .before .before .before .shared-slice-known in
+    numbered _ _ (low-small _ (λ k. omega (arith, shared-slice-known .given k))) (λ d h. c .before .loop .inv .4 d (omega (arith, codes .ensures .0))) (pre)
 
 pub numbers-of-spec : {M : Type 1} → statement M
 numbers-of-spec =

@@ -29,10 +29,14 @@ mul-result : tie.Need-mul-result
 mul-result c = omega (arith, (c .shared-slice-known3 .given) ((c .before .before .before .before .args .at) + 1))
 
 add-result-2 : tie.Need-add-result-2
-add-result-2 c = omega (arith, (c .before .shared-slice-known2 .given) (c .before .before .before .before .args .at), (c .shared-slice-known3 .given) ((c .before .before .before .before .args .at) + 1))
+add-result-2 c =
+    let args = c .before .before .before .before .args in
+    omega (arith, (c .before .shared-slice-known2 .given) (args .at), (c .shared-slice-known3 .given) ((args .at) + 1))
 
 returns : tie.Need-returns
-returns c = (refl, omega (arith, (c .before .shared-slice-known2 .given) (c .before .before .before .before .args .at), (c .shared-slice-known3 .given) ((c .before .before .before .before .args .at) + 1)))
+returns c =
+    let args = c .before .before .before .before .args in
+    (refl, omega (arith, (c .before .shared-slice-known2 .given) (args .at), (c .shared-slice-known3 .given) ((args .at) + 1)))
 
 byte-at-requires : tie.Need-byte-at-requires
 byte-at-requires c κs = search needs

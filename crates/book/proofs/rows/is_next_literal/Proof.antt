@@ -18,7 +18,9 @@ implies-requires c κs = search needs
 
 returns : tie.Need-returns
 unfolding nextLiteralRule
-returns c = if-then (c .implies .ensures) (as-is (leb 1 (c .before .before .before .args .byte))) (both (c .before .is-literal .ensures) (as-is (leb (c .before .before .before .args .before % 128 + 1) (c .before .before .before .args .byte % 128))))
+returns c =
+    let args = c .before .before .before .args in
+    if-then (c .implies .ensures) (as-is (leb 1 (args .byte))) (both (c .before .is-literal .ensures) (as-is (leb (args .before % 128 + 1) (args .byte % 128))))
 
 pub is-next-literal-spec : {M : Type 1} → statement M
 is-next-literal-spec = tie.close (tie.spec is-literal-requires add-implies implies-requires returns)

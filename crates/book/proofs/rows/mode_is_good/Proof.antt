@@ -23,7 +23,11 @@ implies-requires-2 c κs = search needs
 
 returns : tie.Need-returns
 unfolding modeRule
-returns c = both (at-most mayIfMode (c .before .before .before .before .mode .ensures .0)) (both (if-then (c .before .before .implies .ensures) (at-most mayMode (c .before .before .before .before .mode .ensures .0)) (c .before .before .before .has-no-expression .ensures)) (if-then (c .implies2 .ensures) (at-least mustIfMode (c .before .before .before .before .mode .ensures .0)) (c .before .expression-is-good .ensures)))
+returns c =
+    let implies = c .before .before .implies in
+    let mode = c .before .before .before .before .mode in
+    let has-no-expression = c .before .before .before .has-no-expression in
+    both (at-most mayIfMode (mode .ensures .0)) (both (if-then (implies .ensures) (at-most mayMode (mode .ensures .0)) (has-no-expression .ensures)) (if-then (c .implies2 .ensures) (at-least mustIfMode (mode .ensures .0)) (c .before .expression-is-good .ensures)))
 
 pub mode-is-good-spec : {M : Type 1} → statement M
 mode-is-good-spec = tie.close (tie.spec mode-requires has-no-expression-requires implies-requires expression-is-good-requires implies-requires-2 returns)

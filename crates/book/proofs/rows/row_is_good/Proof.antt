@@ -22,7 +22,11 @@ suits-required-line-requires c κs = search needs
 
 returns : tie.Need-returns
 unfolding rowRule rowEndRule
-returns c = both (c .before .mode-is-good .ensures) (both (both (is 0 (c .before .before .before .before .row-end .ensures .0)) (both (is 0 (c .before .before .before .row-end2 .ensures .0)) (is 0 (c .before .before .row-end3 .ensures .0)))) (c .suits-required-line .ensures))
+returns c =
+    let row-end3 = c .before .before .row-end3 in
+    let row-end2 = c .before .before .before .row-end2 in
+    let row-end = c .before .before .before .before .row-end in
+    both (c .before .mode-is-good .ensures) (both (both (is 0 (row-end .ensures .0)) (both (is 0 (row-end2 .ensures .0)) (is 0 (row-end3 .ensures .0)))) (c .suits-required-line .ensures))
 
 pub row-is-good-spec : {M : Type 1} → statement M
 row-is-good-spec = tie.close (tie.spec row-end-requires row-end-requires-2 row-end-requires-3 mode-is-good-requires suits-required-line-requires returns)

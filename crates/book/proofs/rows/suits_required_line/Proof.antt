@@ -31,7 +31,11 @@ implies-requires c κs = search needs
 
 returns : tie.Need-returns
 unfolding requiredRowRule
-returns c = if-then (c .implies .ensures) (is 1 (c .before .before .required .ensures .0 ∙ ap (λ (n : ℕ). guideOf (c .before .before .before .before .before .args .book .now) .required (c .before .before .before .before .before .args .row % n + 1)) (c .before .before .before .lines .ensures .0))) (is mustMode (c .before .mode .ensures .0))
+returns c =
+    let required = c .before .before .required in
+    let lines = c .before .before .before .lines in
+    let args = c .before .before .before .before .before .args in
+    if-then (c .implies .ensures) (is 1 (required .ensures .0 ∙ ap (λ (n : ℕ). guideOf (args .book .now) .required (args .row % n + 1)) (lines .ensures .0))) (is mustMode (c .before .mode .ensures .0))
 
 pub suits-required-line-spec : {M : Type 1} → statement M
 suits-required-line-spec = tie.close (tie.spec lines-requires rem-line add-line required-requires mode-requires implies-requires returns)

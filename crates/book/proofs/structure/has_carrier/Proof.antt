@@ -30,7 +30,13 @@ maximum-requires c κs = search needs
 
 returns : tie.Need-returns
 unfolding carrierRule
-returns c = let bs = c .before .before .before .before .before .before .before .args .book .now in let l = c .before .before .before .before .before .carrier .ensures .0 in both (c .before .before .before .is-between .ensures ∙ ap₂ (λ (x n : ℕ). run (between 1 x n)) l (c .before .before .before .before .lines .ensures .0)) (both (is segmentKind (c .before .before .kind .ensures .0 ∙ ap (guideOf bs .kind) l)) (both (is 1 (c .before .required .ensures .0 ∙ ap (guideOf bs .required) l)) (is 1 (c .maximum .ensures .0 ∙ ap (guideOf bs .maximum) l))))
+returns c =
+    let kind = c .before .before .kind in
+    let is-between = c .before .before .before .is-between in
+    let lines = c .before .before .before .before .lines in
+    let carrier = c .before .before .before .before .before .carrier in
+    let args = c .before .before .before .before .before .before .before .args in
+    let bs = args .book .now in let l = carrier .ensures .0 in both (is-between .ensures ∙ ap₂ (λ (x n : ℕ). run (between 1 x n)) l (lines .ensures .0)) (both (is segmentKind (kind .ensures .0 ∙ ap (guideOf bs .kind) l)) (both (is 1 (c .before .required .ensures .0 ∙ ap (guideOf bs .required) l)) (is 1 (c .maximum .ensures .0 ∙ ap (guideOf bs .maximum) l))))
 
 pub has-carrier-spec : {M : Type 1} → statement M
 has-carrier-spec = tie.close (tie.spec carrier-requires lines-requires is-between-requires kind-requires required-requires maximum-requires returns)

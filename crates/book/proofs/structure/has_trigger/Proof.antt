@@ -40,7 +40,15 @@ implies-requires c κs = search needs
 
 returns : tie.Need-returns
 unfolding triggerRule
-returns c = if-then (c .implies .ensures) (is groupKind (c .before .before .kind2 .ensures .0)) (both (at-least (c .before .before .before .before .before .before .before .before .before .args .line + 1) (c .before .lines .ensures .0)) (both (is segmentKind (c .before .before .before .before .kind .ensures .0)) (both (are-same (c .before .before .before .depth2 .ensures .0) (ap (λ (d : ℕ). d + 1) (c .before .before .before .before .before .before .before .depth .ensures .0))) (both (is 1 (c .before .before .before .before .before .before .required .ensures .0)) (is 1 (c .before .before .before .before .before .maximum .ensures .0))))))
+returns c =
+    let kind2 = c .before .before .kind2 in
+    let depth2 = c .before .before .before .depth2 in
+    let kind = c .before .before .before .before .kind in
+    let maximum = c .before .before .before .before .before .maximum in
+    let required = c .before .before .before .before .before .before .required in
+    let depth = c .before .before .before .before .before .before .before .depth in
+    let args = c .before .before .before .before .before .before .before .before .before .args in
+    if-then (c .implies .ensures) (is groupKind (kind2 .ensures .0)) (both (at-least (args .line + 1) (c .before .lines .ensures .0)) (both (is segmentKind (kind .ensures .0)) (both (are-same (depth2 .ensures .0) (ap (λ (d : ℕ). d + 1) (depth .ensures .0))) (both (is 1 (required .ensures .0)) (is 1 (maximum .ensures .0))))))
 
 pub has-trigger-spec : {M : Type 1} → statement M
 has-trigger-spec = tie.close (tie.spec add-next depth-requires required-requires maximum-requires kind-requires depth-requires-2 add-trigger kind-requires-2 lines-requires implies-requires returns)

@@ -26,7 +26,13 @@ selector-element-requires c κs = search needs
 
 returns : tie.Need-returns
 unfolding frameRule
-returns c = both (is segmentKind (c .before .before .before .before .before .kind .ensures .0)) (both (is (c .before .before .before .before .before .before .before .args .tag) (c .before .before .before .before .tag .ensures .0)) (both (is 0 (c .before .before .before .depth .ensures .0)) (both (is 1 (c .before .before .required .ensures .0)) (both (is 1 (c .before .maximum .ensures .0)) (is 0 (c .selector-element .ensures .0))))))
+returns c =
+    let required = c .before .before .required in
+    let depth = c .before .before .before .depth in
+    let tag = c .before .before .before .before .tag in
+    let kind = c .before .before .before .before .before .kind in
+    let args = c .before .before .before .before .before .before .before .args in
+    both (is segmentKind (kind .ensures .0)) (both (is (args .tag) (tag .ensures .0)) (both (is 0 (depth .ensures .0)) (both (is 1 (required .ensures .0)) (both (is 1 (c .before .maximum .ensures .0)) (is 0 (c .selector-element .ensures .0))))))
 
 pub is-frame-spec : {M : Type 1} → statement M
 is-frame-spec = tie.close (tie.spec kind-requires tag-requires depth-requires required-requires maximum-requires selector-element-requires returns)

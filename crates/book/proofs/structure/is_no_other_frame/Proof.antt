@@ -22,7 +22,11 @@ implies-requires-2 c κs = search needs
 
 returns : tie.Need-returns
 unfolding onlyFramesRule
-returns c = both (if-then (c .before .before .implies .ensures) (is (tagNumber UNH) (c .before .before .before .tag .ensures .0)) (as-is (eqb (c .before .before .before .before .before .args .line) 1))) (if-then (c .implies2 .ensures) (is (tagNumber UNT) (c .before .before .before .tag .ensures .0)) (are-same refl (c .before .lines .ensures .0)))
+returns c =
+    let implies = c .before .before .implies in
+    let tag = c .before .before .before .tag in
+    let args = c .before .before .before .before .before .args in
+    both (if-then (implies .ensures) (is (tagNumber UNH) (tag .ensures .0)) (as-is (eqb (args .line) 1))) (if-then (c .implies2 .ensures) (is (tagNumber UNT) (tag .ensures .0)) (are-same refl (c .before .lines .ensures .0)))
 
 pub is-no-other-frame-spec : {M : Type 1} → statement M
 is-no-other-frame-spec = tie.close (tie.spec tag-requires implies-requires lines-requires implies-requires-2 returns)

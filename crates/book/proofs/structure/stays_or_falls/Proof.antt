@@ -27,7 +27,12 @@ implies-requires c κs = search needs
 
 returns : tie.Need-returns
 unfolding fallRule
-returns c = if-then (c .implies .ensures) (both (is segmentKind (c .before .before .before .before .kind .ensures .0)) (at-least (c .before .before .before .before .before .before .args .line + 1) (c .before .before .before .lines .ensures .0))) (in-order (c .before .before .depth .ensures .0) (c .before .depth2 .ensures .0))
+returns c =
+    let depth = c .before .before .depth in
+    let lines = c .before .before .before .lines in
+    let kind = c .before .before .before .before .kind in
+    let args = c .before .before .before .before .before .before .args in
+    if-then (c .implies .ensures) (both (is segmentKind (kind .ensures .0)) (at-least (args .line + 1) (lines .ensures .0))) (in-order (depth .ensures .0) (c .before .depth2 .ensures .0))
 
 pub stays-or-falls-spec : {M : Type 1} → statement M
 stays-or-falls-spec = tie.close (tie.spec add-next kind-requires lines-requires depth-requires depth-requires-2 implies-requires returns)

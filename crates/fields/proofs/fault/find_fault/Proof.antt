@@ -52,13 +52,22 @@ returns c =
     passing-done (args .service) (guideOf (args .book .now)) (args .message .now) (args .at) (args .line) _ (loop .element) (loop .end) (loop .field) (loop .inv .0) (sym (opens-element .ensures) ∙ not-true _ (c .before .if1 .taken)) _ (c .test-rest .ensures)
 
 add-element : tie.Need-add-element Inv-loop μ-loop
-add-element c = let n = passing-inside (c .before .before .before .before .before .before .before .before .before .args .service) (guideOf (c .before .before .before .before .before .before .before .before .before .args .book .now)) (c .before .before .before .before .before .before .before .before .before .args .message .now) (c .before .before .before .before .before .before .before .before .before .args .at) (c .before .before .before .before .before .before .before .before .before .args .line) _ (c .before .before .loop .element) (c .before .before .loop .end) (c .before .before .loop .field) (c .before .before .loop .inv .0) (sym (c .before .opens-element .ensures) ∙ not-false _ (c .if1 .left)) in let m = (c .before .before .loop .inv .0 .counted) in omega arith
+add-element c =
+    let loop = c .before .before .loop in
+    let args = c .before .before .before .before .before .before .before .before .before .args in
+    let n = passing-inside (args .service) (guideOf (args .book .now)) (args .message .now) (args .at) (args .line) _ (loop .element) (loop .end) (loop .field) (loop .inv .0) (sym (c .before .opens-element .ensures) ∙ not-false _ (c .if1 .left)) in let m = (loop .inv .0 .counted) in omega arith
 
 add-test-element : tie.Need-add-test-element Inv-loop μ-loop
-add-test-element c = let n = passing-inside (c .before .before .before .before .before .before .before .before .before .args .service) (guideOf (c .before .before .before .before .before .before .before .before .before .args .book .now)) (c .before .before .before .before .before .before .before .before .before .args .message .now) (c .before .before .before .before .before .before .before .before .before .args .at) (c .before .before .before .before .before .before .before .before .before .args .line) _ (c .before .before .loop .element) (c .before .before .loop .end) (c .before .before .loop .field) (c .before .before .loop .inv .0) (sym (c .before .opens-element .ensures) ∙ not-false _ (c .if1 .left)) in omega arith
+add-test-element c =
+    let loop = c .before .before .loop in
+    let args = c .before .before .before .before .before .before .before .before .before .args in
+    let n = passing-inside (args .service) (guideOf (args .book .now)) (args .message .now) (args .at) (args .line) _ (loop .element) (loop .end) (loop .field) (loop .inv .0) (sym (c .before .opens-element .ensures) ∙ not-false _ (c .if1 .left)) in omega arith
 
 test-element-requires : tie.Need-test-element-requires Inv-loop μ-loop
-test-element-requires c κs = let n = passing-inside (c .before .before .before .before .before .before .before .before .before .args .service) (guideOf (c .before .before .before .before .before .before .before .before .before .args .book .now)) (c .before .before .before .before .before .before .before .before .before .args .message .now) (c .before .before .before .before .before .before .before .before .before .args .at) (c .before .before .before .before .before .before .before .before .before .args .line) _ (c .before .before .loop .element) (c .before .before .loop .end) (c .before .before .loop .field) (c .before .before .loop .inv .0) (sym (c .before .opens-element .ensures) ∙ not-false _ (c .if1 .left)) in (omega arith, (c .before .before .loop .inv .0 .few), (c .before .before .loop .inv .1))
+test-element-requires c κs =
+    let loop = c .before .before .loop in
+    let args = c .before .before .before .before .before .before .before .before .before .args in
+    let n = passing-inside (args .service) (guideOf (args .book .now)) (args .message .now) (args .at) (args .line) _ (loop .element) (loop .end) (loop .field) (loop .inv .0) (sym (c .before .opens-element .ensures) ∙ not-false _ (c .if1 .left)) in (omega arith, (loop .inv .0 .few), (loop .inv .1))
 
 enum-known-component : tie.Need-enum-known-component Inv-loop μ-loop
 enum-known-component c = search needs
@@ -76,7 +85,13 @@ enum-known-closed : tie.Need-enum-known-closed Inv-loop μ-loop
 enum-known-closed c = search needs
 
 loop-less : tie.Need-loop-less Inv-loop μ-loop
-loop-less c = let n = passing-later (c .before .before .before .before .before .before .before .before .before .before .before .before .before .args .service) (guideOf (c .before .before .before .before .before .before .before .before .before .before .before .before .before .args .book .now)) (c .before .before .before .before .before .before .before .before .before .before .before .before .before .args .message .now) (c .before .before .before .before .before .before .before .before .before .before .before .before .before .args .at) (c .before .before .before .before .before .before .before .before .before .before .before .before .before .args .line) _ (c .before .before .before .before .before .before .loop .element) (c .before .before .before .before .before .before .loop .end) (c .before .before .before .before .before .before .loop .field) (c .before .before .before .before .before .before .loop .inv .0) (sym (c .before .before .before .before .before .opens-element .ensures) ∙ not-false _ (c .before .before .before .before .if1 .left)) _ (c .before .before .before .test-element .ensures) _ _ (c .before .closed .given .1) in omega arith
+loop-less c =
+    let if1 = c .before .before .before .before .if1 in
+    let test-element = c .before .before .before .test-element in
+    let loop = c .before .before .before .before .before .before .loop in
+    let opens-element = c .before .before .before .before .before .opens-element in
+    let args = c .before .before .before .before .before .before .before .before .before .before .before .before .before .args in
+    let n = passing-later (args .service) (guideOf (args .book .now)) (args .message .now) (args .at) (args .line) _ (loop .element) (loop .end) (loop .field) (loop .inv .0) (sym (opens-element .ensures) ∙ not-false _ (if1 .left)) _ (test-element .ensures) _ _ (c .before .closed .given .1) in omega arith
 
 loop-again : tie.Need-loop-again Inv-loop μ-loop
 loop-again c =

@@ -45,7 +45,12 @@ is-release-requires : tie.Need-is-release-requires Inv-loop μ-loop
 is-release-requires c κs = search needs
 
 add-releases : tie.Need-add-releases Inv-loop μ-loop
-add-releases c = let n = free-few (c .before .before .before .before .before .before .before .before .before .before .before .args .service) (c .before .before .before .before .before .before .before .before .before .before .before .args .message .now) (c .before .before .before .before .before .before .before .before .before .before .before .args .from) (c .before .before .before .before .before .before .before .before .before .loop .releases) (c .before .before .before .before .before .before .before .before .before .loop .position) (c .before .before .before .before .before .before .before .before .loop-test .taken) _ (c .before .before .before .before .kind-of .ensures) (c .before .before .before .before .before .before .before .before .before .loop .inv) in omega (arith, (c .before .before .before .before .before .before .before .before .loop-test .taken))
+add-releases c =
+    let kind-of = c .before .before .before .before .kind-of in
+    let loop-test = c .before .before .before .before .before .before .before .before .loop-test in
+    let loop = c .before .before .before .before .before .before .before .before .before .loop in
+    let args = c .before .before .before .before .before .before .before .before .before .before .before .args in
+    let n = free-few (args .service) (args .message .now) (args .from) (loop .releases) (loop .position) (loop-test .taken) _ (kind-of .ensures) (loop .inv) in omega (arith, (loop-test .taken))
 
 add-position-2 : tie.Need-add-position-2 Inv-loop μ-loop
 add-position-2 c = omega (arith, (c .if4 .taken))

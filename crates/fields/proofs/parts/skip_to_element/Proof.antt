@@ -32,10 +32,18 @@ returns c =
     skipping-done (args .service) (args .message .now) (args .from) (loop .start) (loop .inv) _ (read-component .ensures) (sym (c .before .opens-component .ensures) ∙ not-true _ (c .if1 .taken))
 
 add-start : tie.Need-add-start Inv-loop μ-loop
-add-start c = let n = skipping-inside (c .before .before .before .before .before .args .service) (c .before .before .before .before .before .args .message .now) (c .before .before .before .before .before .args .from) (c .before .before .before .loop .start) (c .before .before .before .loop .inv) _ (c .before .before .read-component .ensures) (sym (c .before .opens-component .ensures) ∙ not-false _ (c .if1 .left)) in omega arith
+add-start c =
+    let loop = c .before .before .before .loop in
+    let read-component = c .before .before .read-component in
+    let args = c .before .before .before .before .before .args in
+    let n = skipping-inside (args .service) (args .message .now) (args .from) (loop .start) (loop .inv) _ (read-component .ensures) (sym (c .before .opens-component .ensures) ∙ not-false _ (c .if1 .left)) in omega arith
 
 loop-less : tie.Need-loop-less Inv-loop μ-loop
-loop-less c = let n = skipping-inside (c .before .before .before .before .before .args .service) (c .before .before .before .before .before .args .message .now) (c .before .before .before .before .before .args .from) (c .before .before .before .loop .start) (c .before .before .before .loop .inv) _ (c .before .before .read-component .ensures) (sym (c .before .opens-component .ensures) ∙ not-false _ (c .if1 .left)) in omega arith
+loop-less c =
+    let loop = c .before .before .before .loop in
+    let read-component = c .before .before .read-component in
+    let args = c .before .before .before .before .before .args in
+    let n = skipping-inside (args .service) (args .message .now) (args .from) (loop .start) (loop .inv) _ (read-component .ensures) (sym (c .before .opens-component .ensures) ∙ not-false _ (c .if1 .left)) in omega arith
 
 loop-again : tie.Need-loop-again Inv-loop μ-loop
 loop-again c =

@@ -27,7 +27,12 @@ enum-known-place : tie.Need-enum-known-place
 enum-known-place c = search needs
 
 cast-answer : tie.Need-cast-answer
-cast-answer c = let w = bad-within (c .before .before .before .before .before .before .before .args .service) (c .before .before .before .before .before .before .before .args .message .now) _ (sym (survey-bad (c .before .before .before .before .before .before .before .args .service) (c .before .before .before .before .before .before .before .args .message .now) _ (sym (c .before .place .given .1) ∙ (c .before .before .before .make-survey .ensures)))) in let h = sized-within (c .before .before .before .before .before .before .before .args .message .now) (sym (c .before .before .before .before .before .is-sized .ensures) ∙ not-false _ (c .before .before .before .before .if1 .left)) in omega arith
+cast-answer c =
+    let make-survey = c .before .before .before .make-survey in
+    let if1 = c .before .before .before .before .if1 in
+    let is-sized = c .before .before .before .before .before .is-sized in
+    let args = c .before .before .before .before .before .before .before .args in
+    let w = bad-within (args .service) (args .message .now) _ (sym (survey-bad (args .service) (args .message .now) _ (sym (c .before .place .given .1) ∙ (make-survey .ensures)))) in let h = sized-within (args .message .now) (sym (is-sized .ensures) ∙ not-false _ (if1 .left)) in omega arith
 
 answer-requires-2 : tie.Need-answer-requires-2
 answer-requires-2 c κs = search needs

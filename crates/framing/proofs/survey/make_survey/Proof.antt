@@ -46,10 +46,22 @@ add-segments c =
     omega (arith, (loop-test .taken), (loop .inv .scanning .few), (pre))
 
 add-at : tie.Need-add-at Inv-loop μ-loop
-add-at c = let w = end-within (c .before .before .before .before .before .before .before .before .before .args .service) (c .before .before .before .before .before .before .before .before .before .args .message .now) (c .before .before .before .before .before .before .before .loop .at) _ (sym (c .before .before .before .before .before .segment-end .ensures) ∙ (c .before .before .before .end .given .1)) .inside in omega (arith, w, (c .before .before .before .before .before .before .before .before .before .good .1 .0 .1))
+add-at c =
+    let end = c .before .before .before .end in
+    let segment-end = c .before .before .before .before .before .segment-end in
+    let loop = c .before .before .before .before .before .before .before .loop in
+    let args = c .before .before .before .before .before .before .before .before .before .args in
+    let good = c .before .before .before .before .before .before .before .before .before .good in
+    let w = end-within (args .service) (args .message .now) (loop .at) _ (sym (segment-end .ensures) ∙ (end .given .1)) .inside in omega (arith, w, (good .1 .0 .1))
 
 loop-less : tie.Need-loop-less Inv-loop μ-loop
-loop-less c = let w = end-within (c .before .before .before .before .before .before .before .before .before .args .service) (c .before .before .before .before .before .before .before .before .before .args .message .now) (c .before .before .before .before .before .before .before .loop .at) _ (sym (c .before .before .before .before .before .segment-end .ensures) ∙ (c .before .before .before .end .given .1)) .behind in omega (arith, w, (c .before .before .before .before .before .before .loop-test .taken))
+loop-less c =
+    let end = c .before .before .before .end in
+    let segment-end = c .before .before .before .before .before .segment-end in
+    let loop-test = c .before .before .before .before .before .before .loop-test in
+    let loop = c .before .before .before .before .before .before .before .loop in
+    let args = c .before .before .before .before .before .before .before .before .before .args in
+    let w = end-within (args .service) (args .message .now) (loop .at) _ (sym (segment-end .ensures) ∙ (end .given .1)) .behind in omega (arith, w, (loop-test .taken))
 
 loop-again : tie.Need-loop-again Inv-loop μ-loop
 loop-again c =

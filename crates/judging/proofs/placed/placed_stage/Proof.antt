@@ -19,10 +19,18 @@ enum-known-place : tie.Need-enum-known-place
 enum-known-place c = search needs
 
 cast-fault-verdict : tie.Need-cast-fault-verdict
-cast-fault-verdict c = let h = in-reach (length ((c .before .before .before .before .before .before .before .before .before .args .message .now))) _ _ _ _ _ ((c .before .before .before .test-fields .ensures .1)) ((c .before .place .given .1)) in let x = h .0 in let y = ((c .before .before .before .before .before .before .before .before .before .pre)) in omega arith
+cast-fault-verdict c =
+    let test-fields = c .before .before .before .test-fields in
+    let pre = c .before .before .before .before .before .before .before .before .before .pre in
+    let args = c .before .before .before .before .before .before .before .before .before .args in
+    let h = in-reach (length (args .message .now)) _ _ _ _ _ (test-fields .ensures .1) ((c .before .place .given .1)) in let x = h .0 in let y = (pre) in omega arith
 
 cast-fault-verdict-2 : tie.Need-cast-fault-verdict-2
-cast-fault-verdict-2 c = let h = in-reach (length ((c .before .before .before .before .before .before .before .before .before .args .message .now))) _ _ _ _ _ ((c .before .before .before .test-fields .ensures .1)) ((c .before .place .given .1)) in let x = h .1 in let y = ((c .before .before .before .before .before .before .before .before .before .pre)) in omega arith
+cast-fault-verdict-2 c =
+    let test-fields = c .before .before .before .test-fields in
+    let pre = c .before .before .before .before .before .before .before .before .before .pre in
+    let args = c .before .before .before .before .before .before .before .before .before .args in
+    let h = in-reach (length (args .message .now)) _ _ _ _ _ (test-fields .ensures .1) ((c .before .place .given .1)) in let x = h .1 in let y = (pre) in omega arith
 
 fault-verdict-requires : tie.Need-fault-verdict-requires
 fault-verdict-requires c κs = search needs

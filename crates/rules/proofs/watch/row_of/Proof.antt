@@ -17,7 +17,10 @@ sub-result : tie.Need-sub-result
 sub-result c = search needs
 
 add-result : tie.Need-add-result
-add-result c = let h = row-fits (c .before .before .args .identifier) (c .lines .result) ((c .before .before .args .line) - 1) ((c .before .before .pre .0)) (c .lines .ensures .1) (omega (arith, (c .lines .ensures .0), (c .before .before .pre .1))) in omega arith
+add-result c =
+    let pre = c .before .before .pre in
+    let args = c .before .before .args in
+    let h = row-fits (args .identifier) (c .lines .result) ((args .line) - 1) (pre .0) (c .lines .ensures .1) (omega (arith, (c .lines .ensures .0), (pre .1))) in omega arith
 
 returns : tie.Need-returns
 returns c = ap (λ (n : _). (c .before .before .args .identifier) * n + ((c .before .before .args .line) - 1)) (c .lines .ensures .0)
