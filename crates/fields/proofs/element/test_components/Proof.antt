@@ -67,13 +67,26 @@ returns-2 c =
     going-closed (args .service) (guideOf (args .book .now)) (args .message .now) (args .from) (args .some) (args .element) (args .first) (args .last) (loop .component) (loop .start) (loop .field) (loop .inv) _ (read-component .ensures) _ (test-component .ensures) _ (next .given .1) (sym (c .before .opens-component .ensures) ∙ not-true _ (c .if1 .taken))
 
 add-component : tie.Need-add-component Inv-loop μ-loop
-add-component c = let n = going-inside (c .before .before .before .before .before .before .before .before .before .before .before .args .service) (guideOf (c .before .before .before .before .before .before .before .before .before .before .before .args .book .now)) (c .before .before .before .before .before .before .before .before .before .before .before .args .message .now) (c .before .before .before .before .before .before .before .before .before .before .before .args .from) (c .before .before .before .before .before .before .before .before .before .before .before .args .some) (c .before .before .before .before .before .before .before .before .before .before .before .args .element) (c .before .before .before .before .before .before .before .before .before .before .before .args .first) (c .before .before .before .before .before .before .before .before .before .before .before .args .last) (c .before .before .before .before .before .before .before .before .loop .component) (c .before .before .before .before .before .before .before .before .loop .start) (c .before .before .before .before .before .before .before .before .loop .field) (c .before .before .before .before .before .before .before .before .loop .inv) _ (c .before .before .before .before .before .before .before .read-component .ensures) _ (c .before .before .before .before .before .test-component .ensures) _ (c .before .before .before .next .given .1) (sym (c .before .opens-component .ensures) ∙ not-false _ (c .if1 .left)) in let m = (c .before .before .before .before .before .before .before .before .loop .inv .counted) in omega arith
+add-component c =
+    let args = c .before .before .before .before .before .before .before .before .before .before .before .args in
+    let loop = c .before .before .before .before .before .before .before .before .loop in
+    let n = going-inside (args .service) (guideOf (args .book .now)) (args .message .now) (args .from) (args .some) (args .element) (args .first) (args .last) (loop .component) (loop .start) (loop .field) (loop .inv) _ (c .before .before .before .before .before .before .before .read-component .ensures) _ (c .before .before .before .before .before .test-component .ensures) _ (c .before .before .before .next .given .1) (sym (c .before .opens-component .ensures) ∙ not-false _ (c .if1 .left)) in
+    let m = (loop .inv .counted) in
+    omega (arith, n, m)
 
 add-start : tie.Need-add-start Inv-loop μ-loop
-add-start c = let n = going-inside (c .before .before .before .before .before .before .before .before .before .before .before .args .service) (guideOf (c .before .before .before .before .before .before .before .before .before .before .before .args .book .now)) (c .before .before .before .before .before .before .before .before .before .before .before .args .message .now) (c .before .before .before .before .before .before .before .before .before .before .before .args .from) (c .before .before .before .before .before .before .before .before .before .before .before .args .some) (c .before .before .before .before .before .before .before .before .before .before .before .args .element) (c .before .before .before .before .before .before .before .before .before .before .before .args .first) (c .before .before .before .before .before .before .before .before .before .before .before .args .last) (c .before .before .before .before .before .before .before .before .loop .component) (c .before .before .before .before .before .before .before .before .loop .start) (c .before .before .before .before .before .before .before .before .loop .field) (c .before .before .before .before .before .before .before .before .loop .inv) _ (c .before .before .before .before .before .before .before .read-component .ensures) _ (c .before .before .before .before .before .test-component .ensures) _ (c .before .before .before .next .given .1) (sym (c .before .opens-component .ensures) ∙ not-false _ (c .if1 .left)) in omega arith
+add-start c =
+    let args = c .before .before .before .before .before .before .before .before .before .before .before .args in
+    let loop = c .before .before .before .before .before .before .before .before .loop in
+    let n = going-inside (args .service) (guideOf (args .book .now)) (args .message .now) (args .from) (args .some) (args .element) (args .first) (args .last) (loop .component) (loop .start) (loop .field) (loop .inv) _ (c .before .before .before .before .before .before .before .read-component .ensures) _ (c .before .before .before .before .before .test-component .ensures) _ (c .before .before .before .next .given .1) (sym (c .before .opens-component .ensures) ∙ not-false _ (c .if1 .left)) in
+    omega (arith, n)
 
 loop-less : tie.Need-loop-less Inv-loop μ-loop
-loop-less c = let n = going-inside (c .before .before .before .before .before .before .before .before .before .before .before .args .service) (guideOf (c .before .before .before .before .before .before .before .before .before .before .before .args .book .now)) (c .before .before .before .before .before .before .before .before .before .before .before .args .message .now) (c .before .before .before .before .before .before .before .before .before .before .before .args .from) (c .before .before .before .before .before .before .before .before .before .before .before .args .some) (c .before .before .before .before .before .before .before .before .before .before .before .args .element) (c .before .before .before .before .before .before .before .before .before .before .before .args .first) (c .before .before .before .before .before .before .before .before .before .before .before .args .last) (c .before .before .before .before .before .before .before .before .loop .component) (c .before .before .before .before .before .before .before .before .loop .start) (c .before .before .before .before .before .before .before .before .loop .field) (c .before .before .before .before .before .before .before .before .loop .inv) _ (c .before .before .before .before .before .before .before .read-component .ensures) _ (c .before .before .before .before .before .test-component .ensures) _ (c .before .before .before .next .given .1) (sym (c .before .opens-component .ensures) ∙ not-false _ (c .if1 .left)) in omega arith
+loop-less c =
+    let args = c .before .before .before .before .before .before .before .before .before .before .before .args in
+    let loop = c .before .before .before .before .before .before .before .before .loop in
+    let n = going-inside (args .service) (guideOf (args .book .now)) (args .message .now) (args .from) (args .some) (args .element) (args .first) (args .last) (loop .component) (loop .start) (loop .field) (loop .inv) _ (c .before .before .before .before .before .before .before .read-component .ensures) _ (c .before .before .before .before .before .test-component .ensures) _ (c .before .before .before .next .given .1) (sym (c .before .opens-component .ensures) ∙ not-false _ (c .if1 .left)) in
+    omega (arith, n)
 
 loop-again : tie.Need-loop-again Inv-loop μ-loop
 loop-again c =
