@@ -28,13 +28,14 @@ use Rattle.rules.specs.declared.finding.Finding.{Finding}
 use Rattle.rules.specs.declared.finding.Finding.the-variants.{Kept, Broken, Unsettled}
 use Rattle.rules.specs.declared.identifier.Identified.{Identified}
 use Rattle.rules.specs.declared.identifier.Identified.the-variants.{Known, Foreign}
+use Rattle.judging.proofs.Decided.{refusal-number}
 use Rattle.judging.specs.method.Table.{refusal, identifierIn, identifierVerdict, placedStage, judged, tablesAfter}
 use Rattle.tracksaddle.specs.meaning.Door.{asManyAsFit}
 use Rattle.tracksaddle.proofs.tracksaddle_judge.Reads as judge
 use Rattle.demands.proofs.DoorMeans.{whole-record}
 use Rattle.demands.specs.meaning.Demands.{HoldTree, Demand1, Demand2, Demand3}
 use Rattle.demands.specs.meaning.Closing as call
-use Rattle.demands.specs.meaning.Closing.{Handed, Left, Promised, knowing, Answers, Shown, Closing}
+use Rattle.demands.specs.meaning.Closing.{Handed, Left, Promised, knowing, Answers, Shown, IsOther, Closing}
 use Rattle.demands.proofs.DemandThree.{refused-is, placed-is}
 use Rattle.demands.proofs.Demands.{certain-standard}
 
@@ -187,9 +188,6 @@ shown-is h l g room v = (
   λ e. (g .number ∙ ap (λ (x : Verdict). x .number) e, g .entries ∙ ap (λ (x : Verdict). asManyAsFit (numbersOf x) (h .entries)) e),
 )
 
-refused-number : (n : ℕ) → 1 ≤ n → n ≤ 11 → isRefusal n ≡ true
-refused-number n a b = rw (le-leb 1 n a, le-leb n 11 b)
-
 other-number : (n : ℕ) → (n ≡ 0) ⊎ (12 ≤ n) → isRefusal n ≡ false
 other-number n (inl e) = ap isRefusal e
 other-number n (inr k) = rw (le-leb 1 n (omega arith), lt-leb n 11 (omega arith))
@@ -197,6 +195,13 @@ other-number n (inr k) = rw (le-leb 1 n (omega arith), lt-leb n 11 (omega arith)
 module _ (h : Handed) (l : Left) (p : Promised h l) where
   g : Given h l
   g = given h l p
+
+  same-tree : (ds : List ℕ) (k : Left) → Promised (knowing ds h) k → IsOther l → IsOther k → l .tables ≡ k .tables
+  same-tree ds k q a b =
+      let there = given (knowing ds h) k q in
+      g .tables
+      ∙ demand-1 h .same-tree (h .conditions) ds (sym (ap isRefusal (g .number)) ∙ other-number (l .number) a) (sym (ap isRefusal (there .number)) ∙ other-number (k .number) b)
+      ∙ sym (there .tables)
 
   same-later : (ds : List ℕ) (k : Left) → Promised (knowing ds h) k → Learns (h .conditions) ds → l .tables ≡ k .tables
   same-later ds k q i = g .tables ∙ demand-1 h .same-later (h .conditions) ds i ∙ sym (given (knowing ds h) k q .tables)
@@ -209,10 +214,12 @@ module _ (h : Handed) (l : Left) (p : Promised h l) where
   keeps =
       record {
         answer = (verdictOn h, (g .number, g .entries));
-        untouched = λ a b. g .tables ∙ demand-1 h .untouched (h .conditions) (sym (ap isRefusal (g .number)) ∙ refused-number (l .number) a b);
+        one-answer = λ room v w a b. sym (shown-is h l g room v .0 a) ∙ shown-is h l g room w .0 b;
+        untouched = λ a b. g .tables ∙ demand-1 h .untouched (h .conditions) (sym (ap isRefusal (g .number)) ∙ refusal-number (l .number) (λ e. absurd (omega arith)) b);
         tree = λ a.
             subst (HoldTree standard (h .message) (h .book) (h .tables)) (sym (g .tables))
             (demand-1 h .tree (h .conditions) (sym (ap isRefusal (g .number)) ∙ other-number (l .number) a));
+        same-tree = same-tree;
         same-later = same-later;
         same-filled = same-filled;
         accepted = λ good fit known limits. (

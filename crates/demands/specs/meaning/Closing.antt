@@ -63,15 +63,23 @@ Answers h l v = (l .number ≡ v .number) × (l .entries ≡ asManyAsFit (number
 abbrev pub Shown : Handed → Type 0
 Shown h = 6 ≤ length (h .entries)
 
+-- "every other answer" than refusals 1 to 11
+abbrev pub IsOther : Left → Type 0
+IsOther l = (l .number ≡ 0) ⊎ (12 ≤ l .number)
+
 -- ---- what every call keeps
 
 pub record Kept (h : Handed) (l : Left) : Type 1 where
-  -- one verdict is the answer, and where there is room for it no other is
+  -- a verdict is the answer, and where there is room for it no other is
   pub answer : (v : Verdict) × Answers h l v
+  pub one-answer : Shown h → (v w : Verdict) → Answers h l v → Answers h l w → v ≡ w
   -- Demand 1: "Refusals 1 to 11 leave the caller's three tables untouched; every other answer leaves the message's tree in them, the
   -- same tree whatever is known of the conditions."
   pub untouched : 1 ≤ l .number → l .number ≤ 11 → l .tables ≡ h .tables
-  pub tree : (l .number ≡ 0) ⊎ (12 ≤ l .number) → HoldTree standard (h .message) (h .book) (h .tables) (l .tables)
+  pub tree : IsOther l → HoldTree standard (h .message) (h .book) (h .tables) (l .tables)
+  -- of any two lists whose answers are no refusals; and, refused or not, of two of which one knows more than the other, and of any two
+  -- fillings of one
+  pub same-tree : (ds : List ℕ) (k : Left) → Promised (knowing ds h) k → IsOther l → IsOther k → l .tables ≡ k .tables
   pub same-later : (ds : List ℕ) (k : Left) → Promised (knowing ds h) k → Learns (h .conditions) ds → l .tables ≡ k .tables
   pub same-filled : (fs gs : List ℕ) (j k : Left) → Promised (knowing fs h) j → Promised (knowing gs h) k → Fills (h .conditions) fs → Fills (h .conditions) gs
       → j .tables ≡ k .tables
