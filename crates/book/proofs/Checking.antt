@@ -4,10 +4,11 @@ use native.Mathlib.Omega.{arith}
 use mathlib.Core.Path.{_≡_, refl}
 use mathlib.Core.List.{List}
 use mathlib.Core.Bool.{true, false}
-use Rattle.book.specs.meaning.Guide.{guideOf}
-use Rattle.book.specs.meaning.Rule.{Holds, run}
-use Rattle.book.specs.meaning.GoodBook.{GoodBook, Judged, lengthRule, countsRule, lineRule, codeRangeRule, rangeRule, identifierRule, rowRule, structureRule, oneHomeRule}
-use Rattle.book.specs.method.Each.{Small, Within, headerRule, recordsRule, homeRule, framedRule}
+use Rattle.guide.specs.meaning.Guide.{guideOf}
+use Rattle.book.specs.meaning.Rule.{Holds}
+use Rattle.book.specs.method.Run.{run}
+use Rattle.book.specs.meaning.GoodBook.{GoodBook, Judged, lengthRule, countsRule, codeRangeRule, rangeRule, oneHomeRule}
+use Rattle.book.specs.method.Each.{lineRule, identifierRule, rowRule, structureRule, Small, Within, headerRule, recordsRule, homeRule, framedRule}
 use Rattle.book.proofs.Rules.{run-holds, run-fails}
 
 malformed : {bs : List ℕ} → (GoodBook bs → ⊥) → Judged bs 1

@@ -1,10 +1,11 @@
 -- Tests joined as a rule joins its parts: each law carries what is known of the parts to the whole. By them a proof says in the
 -- code's own order why a test is the rule's; nothing is searched for.
-use Prim.Native.Nat.{ℕ, _+_, _*_}
+use Prim.Native.Nat.{ℕ, _+_}
 use mathlib.Core.Path.{_≡_, refl, ap, ap₂, _∙_}
 use mathlib.Core.Bool.{Bool, not, _&&_, _||_}
 use lib.Dec.{eqb, leb}
-use Rattle.book.specs.meaning.Rule.{Rule, every, run}
+use Rattle.book.specs.meaning.Rule.{Rule, every}
+use Rattle.book.specs.method.Run.{run}
 use Rattle.book.specs.meaning.GoodBook.{between, rangeRule}
 
 -- ---- of numbers that were read
@@ -38,12 +39,6 @@ in-range {s = s} {first = first} {count = count} e h k l = e ∙ ap₂ (λ (x y 
 -- a rule of so many numbers
 pub asked : (rule : ℕ → Rule) (first : ℕ) {n count : ℕ} {r : Bool} → r ≡ run (every first n rule) → n ≡ count → r ≡ run (every first count rule)
 asked rule first e h = e ∙ ap (λ (n : ℕ). run (every first n rule)) h
-
--- ---- of places
-
--- behind so many records of a size
-pub places : {from size count f s n : ℕ} → from ≡ f → size ≡ s → count ≡ n → from + size * count ≡ f + s * n
-places h k l = ap₂ _+_ h (ap₂ _*_ k l)
 
 -- ---- of tests
 

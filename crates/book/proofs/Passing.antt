@@ -3,8 +3,8 @@ use Prim.Native.Nat.{ℕ, _+_, _-_, _<_}
 use native.Mathlib.Omega.{arith}
 use mathlib.Core.Path.{_≡_, sym, ap, _∙_}
 use mathlib.Core.Bool.{Bool, true, false}
-use Rattle.book.specs.meaning.Guide.{Guide}
-use Rattle.book.specs.meaning.Rule.{run, all}
+use Rattle.guide.specs.meaning.Guide.{Guide}
+use Rattle.book.specs.method.Run.{run, all}
 use Rattle.book.specs.meaning.GoodBook.{sameTagRule, toldApartRule, pairRule}
 use Rattle.book.specs.method.Each.{PassedTo, homeRule}
 use Rattle.book.proofs.Rules.{all-on, all-end, when-false}

@@ -1,7 +1,6 @@
 -- The laws of rules: to run one decides it; and a loop over `all` goes on, ends, or stops at a failure.
-use Prim.Native.Nat.{ℕ, zero, suc, _+_, _*_, _-_, _≤_, _<_, _^_}
+use Prim.Native.Nat.{ℕ, zero, suc, _+_, _-_, _≤_, _<_}
 use native.Mathlib.Omega.{arith}
-use native.Mathlib.Nat.{mul-le-mul-left, mul-le-mul-right}
 use native.Mathlib.Numerals.{add-one}
 use mathlib.Core.Path.{_≡_, refl, sym, ap, ap₂, _∙_}
 use mathlib.Core.Logic.{inl, inr}
@@ -9,22 +8,8 @@ use mathlib.Core.Bool.{Bool, true, false, true≢false, not, _&&_, _||_}
 use lib.Dec.{eqb}
 use borrow.Author.Tests.{eq-eqb, eqb-true, eqb-false, leb-true, le-leb}
 use Rattle.reading.proofs.Booleans.{both, left, right, one-of, or-left, or-right, denied, refuted}
-use Rattle.book.specs.meaning.Rule.{Rule, _≐_, _≼_, _and_, _or_, _⇒_, never, every, Holds, run, all}
-
-pub product-small : (a b : ℕ) → a < 65536 → b < 65536 → a * b < 2 ^ 32
-product-small a b h k = go (mul-le-mul-left a (below b k))
-  where
-    below : (n : ℕ) → n < 65536 → n ≤ 65535
-    below n l = omega arith
-
-    go : a * b ≤ a * 65535 → a * b < 2 ^ 32
-    go m = omega arith
-
-pub product-within : (a b : ℕ) → a < 256 → a * b ≤ 255 * b
-product-within a b h = mul-le-mul-right b (below a h)
-  where
-    below : (n : ℕ) → n < 256 → n ≤ 255
-    below n l = omega arith
+use Rattle.book.specs.meaning.Rule.{Rule, _≐_, _≼_, _and_, _or_, _⇒_, never, every, Holds}
+use Rattle.book.specs.method.Run.{run, all}
 
 -- ---- Booleans
 

@@ -10,8 +10,8 @@ use lib.ListN.{length, getD, set}
 use lib.Seq.{getD-set-same, getD-set-other}
 use borrow.Author.Count.{below-more}
 use borrow.Author.Tests.{eqb-true, eqb-false}
-use Rattle.book.specs.meaning.Guide.{Guide, guideOf, codeAt}
-use Rattle.book.specs.meaning.Rule.{run, all}
+use Rattle.guide.specs.meaning.Guide.{Guide, guideOf, codeAt}
+use Rattle.book.specs.method.Run.{run, all}
 use Rattle.book.specs.meaning.GoodBook.{otherThanRule, otherCodeRule, notAmongRule}
 use Rattle.book.specs.method.Tables.{wholeCode, FirstOf, Numbered, Marked}
 use Rattle.book.proofs.Rules.{all-more, ends-in-true, ends-in-false, holds-run, fails-run}

@@ -1,4 +1,4 @@
--- How the code goes about it, tied to the meaning by laws: how it holds sizes, in which order it tests, what its tables hold.
-pub mod Sizes
+-- How the code goes about it, tied to the meaning by laws: how it tests, in which order, what its tables hold.
+pub mod Run
 pub mod Each
 pub mod Tables

@@ -2,18 +2,19 @@
 // among each other.
 ghost use mathlib.Core.Path.{_≡_};
 ghost use Prim.Native.Nat.{_+_, _-_, _≤_, _<_, _^_};
-ghost use Rattle.book.specs.meaning.Rule.{run, every};
-ghost use Rattle.book.specs.meaning.Guide.{guideOf};
-ghost use Rattle.book.specs.meaning.GoodBook.{risingFieldsRule, aroundRule, carrierGroupRule, structureRule, Judged};
-ghost use Rattle.book.specs.method.Each.{Small, Within, headerRule, recordsRule, framedRule};
+ghost use Rattle.book.specs.meaning.Rule.{every};
+ghost use Rattle.book.specs.method.Run.{run};
+ghost use Rattle.guide.specs.meaning.Guide.{guideOf};
+ghost use Rattle.book.specs.meaning.GoodBook.{risingFieldsRule, aroundRule, carrierGroupRule, Judged};
+ghost use Rattle.book.specs.method.Each.{structureRule, Small, Within, headerRule, recordsRule, framedRule};
 use crate::every;
 use crate::every::Each;
 use crate::header;
 use crate::homes;
-use crate::layout;
 use crate::structure;
 use crate::tests;
-use crate::words::KIND_GROUP;
+use guide::layout;
+use guide::words::KIND_GROUP;
 
 // How many are left from a number on.
 fn less(a: u32, b: u32) -> u32

@@ -1,11 +1,11 @@
 // The rules of one code.
 ghost use mathlib.Core.Path.{_≡_};
 ghost use Prim.Native.Nat.{_<_};
-ghost use Rattle.book.specs.meaning.Rule.{run};
-ghost use Rattle.book.specs.meaning.Guide.{guideOf};
+ghost use Rattle.book.specs.method.Run.{run};
+ghost use Rattle.guide.specs.meaning.Guide.{guideOf};
 ghost use Rattle.book.specs.meaning.GoodBook.{codeByteRule, codeRule};
-use crate::layout;
 use crate::tests;
+use guide::layout;
 
 fn byte_is_good(book: &[u8], code: u32, byte: u32) -> bool
     requires { ⌜ byte < 6 ⌝ }

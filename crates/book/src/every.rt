@@ -1,16 +1,17 @@
 // Every number of a range, for the rules that hold no loop of their own.
 ghost use mathlib.Core.Path.{_≡_};
 ghost use Prim.Native.Nat.{_+_, _≤_, _<_, _^_};
-ghost use Rattle.book.specs.meaning.Rule.{run, every};
-ghost use Rattle.book.specs.meaning.Guide.{guideOf};
+ghost use Rattle.book.specs.meaning.Rule.{every};
+ghost use Rattle.book.specs.method.Run.{run};
+ghost use Rattle.guide.specs.meaning.Guide.{guideOf};
 ghost use Rattle.book.specs.method.Each.{ruleFor};
 use crate::codes;
 use crate::fields;
 use crate::identifiers;
-use crate::layout;
 use crate::lines;
 use crate::rows;
 use crate::structure;
+use guide::layout;
 
 // Which rule is asked of each number; the last one speaks of a subject too.
 pub enum Each {

@@ -1,13 +1,13 @@
 // The rules of one field by itself.
 ghost use mathlib.Core.Path.{_≡_};
-ghost use Rattle.book.specs.meaning.Rule.{run};
-ghost use Rattle.book.specs.meaning.Guide.{guideOf};
+ghost use Rattle.book.specs.method.Run.{run};
+ghost use Rattle.guide.specs.meaning.Guide.{guideOf};
 ghost use Rattle.book.specs.meaning.GoodBook.{fieldRule};
-use crate::layout;
 use crate::tests;
-use crate::words::FORM_NUMBER;
-use crate::words::FORM_TEXT;
-use crate::words::PRESENCE_WITH_ELEMENT;
+use guide::layout;
+use guide::words::FORM_NUMBER;
+use guide::words::FORM_TEXT;
+use guide::words::PRESENCE_WITH_ELEMENT;
 
 pub fn field_is_good(book: &[u8], field: u32) -> bool
     ensures { λ r. ⌜ r ≡ run (fieldRule (guideOf (now (book .entry))) field) ⌝ }

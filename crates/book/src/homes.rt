@@ -3,17 +3,18 @@
 // the book: each line is paid with the code count, however many lines share its tag.
 ghost use mathlib.Core.Path.{_≡_};
 ghost use Prim.Native.Nat.{_≤_};
-ghost use Rattle.book.specs.meaning.Rule.{run, every};
-ghost use Rattle.book.specs.meaning.Guide.{guideOf};
+ghost use Rattle.book.specs.meaning.Rule.{every};
+ghost use Rattle.book.specs.method.Run.{run};
+ghost use Rattle.guide.specs.meaning.Guide.{guideOf};
 ghost use Rattle.book.specs.meaning.GoodBook.{sameTagRule, samePlaceRule, notAmongRule, pairRule};
 ghost use Rattle.book.specs.method.Each.{CodesWithin, Within, PassedTo, homeRule, homesRule};
 ghost use Rattle.book.specs.method.Tables.{Numbered, Marked};
-use crate::layout;
 use crate::numbering;
 use crate::numbering::MOST_CODES;
 use crate::numbering::Marks;
 use crate::numbering::Numbers;
-use crate::words::KIND_SEGMENT;
+use guide::layout;
+use guide::words::KIND_SEGMENT;
 
 // Which numbers the line's codes have: 1 at these, 0 at the others.
 fn marks_of(book: &[u8], numbers: &Numbers, line: u32) -> Marks

@@ -1,11 +1,13 @@
 // The rules of one Prüfidentifikator.
 ghost use mathlib.Core.Path.{_≡_};
 ghost use Prim.Native.Nat.{_<_, _^_};
-ghost use Rattle.book.specs.meaning.Rule.{run, _and_};
-ghost use Rattle.book.specs.meaning.Guide.{guideOf};
-ghost use Rattle.book.specs.meaning.GoodBook.{digit, identifierFormRule, identifierNumber, identifierRises, identifierRule};
-use crate::layout;
+ghost use Rattle.book.specs.meaning.Rule.{_and_};
+ghost use Rattle.book.specs.method.Run.{run};
+ghost use Rattle.guide.specs.meaning.Guide.{guideOf};
+ghost use Rattle.book.specs.meaning.GoodBook.{digit, identifierFormRule, identifierNumber, identifierRises};
+ghost use Rattle.book.specs.method.Each.{identifierRule};
 use crate::tests;
+use guide::layout;
 
 fn are_digits(book: &[u8], identifier: u32) -> bool
     ensures { λ r. ⌜ r ≡ run (digit ((guideOf (now (book .entry))) .identifierByte identifier 0) and digit ((guideOf (now (book .entry))) .identifierByte identifier 1) and digit ((guideOf (now (book .entry))) .identifierByte identifier 2) and digit ((guideOf (now (book .entry))) .identifierByte identifier 3) and digit ((guideOf (now (book .entry))) .identifierByte identifier 4)) ⌝ }

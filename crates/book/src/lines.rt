@@ -1,12 +1,14 @@
 // The rules of one line by itself.
 ghost use mathlib.Core.Path.{_≡_};
-ghost use Rattle.book.specs.meaning.Rule.{run, _and_};
-ghost use Rattle.book.specs.meaning.Guide.{guideOf};
-ghost use Rattle.book.specs.meaning.GoodBook.{kindRule, depthRule, tagByteRule, tagRule, requiredRule, selectorRule, codeRangeRule, maximumRule, fieldRangeRule, groupRule, lineRule};
-use crate::layout;
+ghost use Rattle.book.specs.meaning.Rule.{_and_};
+ghost use Rattle.book.specs.method.Run.{run};
+ghost use Rattle.guide.specs.meaning.Guide.{guideOf};
+ghost use Rattle.book.specs.meaning.GoodBook.{kindRule, depthRule, tagByteRule, tagRule, requiredRule, selectorRule, codeRangeRule, maximumRule, fieldRangeRule, groupRule};
+ghost use Rattle.book.specs.method.Each.{lineRule};
 use crate::tests;
-use crate::words::KIND_GROUP;
-use crate::words::KIND_SEGMENT;
+use guide::layout;
+use guide::words::KIND_GROUP;
+use guide::words::KIND_SEGMENT;
 
 fn tag_byte_is_good(book: &[u8], line: u32, byte: u32) -> bool
     ensures { λ r. ⌜ r ≡ run (tagByteRule (guideOf (now (book .entry))) line byte) ⌝ }

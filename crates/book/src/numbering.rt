@@ -3,9 +3,9 @@
 ghost use mathlib.Core.Path.{_≡_};
 ghost use Prim.Native.Nat.{ℕ, _+_, _*_, _<_, _^_};
 ghost use lib.ListN.{getD};
-ghost use Rattle.book.specs.meaning.Guide.{guideOf};
+ghost use Rattle.guide.specs.meaning.Guide.{guideOf};
 ghost use Rattle.book.specs.method.Tables.{wholeCode, FirstOf, Numbered};
-use crate::layout;
+use guide::layout;
 
 // More codes than a book of 65,535 bytes has room for.
 pub const MOST_CODES: usize = 8192;

@@ -1,17 +1,18 @@
 // The rules of one row.
 ghost use mathlib.Core.Path.{_≡_};
 ghost use Prim.Native.Nat.{_<_};
-ghost use Rattle.book.specs.meaning.Rule.{run};
-ghost use Rattle.book.specs.meaning.Guide.{guideOf};
-ghost use Rattle.book.specs.meaning.GoodBook.{literalRule, nextLiteralRule, expressionRule, noExpressionRule, modeRule, requiredRowRule, rowRule};
-use crate::layout;
+ghost use Rattle.book.specs.method.Run.{run};
+ghost use Rattle.guide.specs.meaning.Guide.{guideOf};
+ghost use Rattle.book.specs.meaning.GoodBook.{literalRule, nextLiteralRule, expressionRule, noExpressionRule, modeRule, requiredRowRule};
+ghost use Rattle.book.specs.method.Each.{rowRule};
 use crate::tests;
-use crate::words::JOINT_ALL;
-use crate::words::JOINT_ANY;
-use crate::words::MODE_MAY;
-use crate::words::MODE_MAY_IF;
-use crate::words::MODE_MUST;
-use crate::words::MODE_MUST_IF;
+use guide::layout;
+use guide::words::JOINT_ALL;
+use guide::words::JOINT_ANY;
+use guide::words::MODE_MAY;
+use guide::words::MODE_MAY_IF;
+use guide::words::MODE_MUST;
+use guide::words::MODE_MUST_IF;
 
 fn is_literal(book: &[u8], byte: u32) -> bool
     ensures { λ r. ⌜ r ≡ run (literalRule (guideOf (now (book .entry))) byte) ⌝ }

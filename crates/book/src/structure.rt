@@ -1,13 +1,13 @@
 // The rules of one line among the others, but for its home.
 ghost use mathlib.Core.Path.{_≡_};
 ghost use Prim.Native.Nat.{_+_, _<_, _^_};
-ghost use Rattle.book.specs.meaning.Rule.{run};
-ghost use Rattle.book.specs.meaning.Guide.{guideOf};
+ghost use Rattle.book.specs.method.Run.{run};
+ghost use Rattle.guide.specs.meaning.Guide.{guideOf};
 ghost use Rattle.book.specs.meaning.GoodBook.{fieldPlace, fieldRises, triggerRule, fallRule, frameRule, framesRule, onlyFramesRule, carrierRule, deeperRule};
-use crate::layout;
 use crate::tests;
-use crate::words::KIND_GROUP;
-use crate::words::KIND_SEGMENT;
+use guide::layout;
+use guide::words::KIND_GROUP;
+use guide::words::KIND_SEGMENT;
 use reading::tag::UNH;
 use reading::tag::UNT;
 

@@ -6,9 +6,9 @@ use mathlib.Core.List.{List}
 use mathlib.Core.Logic.{_⊎_}
 use lib.ListN.{length}
 use Rattle.reading.specs.meaning.Tag.{UNH, UNT, tagNumber}
-use Rattle.book.specs.meaning.Words.{segmentKind, groupKind}
+use Rattle.guide.specs.meaning.Words.{segmentKind, groupKind}
 use Rattle.book.specs.meaning.Rule.{Holds}
-use Rattle.book.specs.meaning.Guide.{guideOf}
+use Rattle.guide.specs.meaning.Guide.{guideOf}
 use Rattle.book.specs.meaning.GoodBook.{GoodBook, kindRule, depthRule, tagRule, requiredRule, selectorRule, codeRangeRule, maximumRule, fieldRangeRule, groupRule, rangeRule, codeRule, fieldRule, identifierFormRule, identifierRises, modeRule, rowEndRule, requiredRowRule, risingFieldsRule, fieldRises, fieldPlace, triggerRule, fallRule, onlyFramesRule, oneHomeRule, pairRule, carrierGroupRule, carrierRule, framesRule, frameRule, countsRule, lengthRule}
 
 module _ (bs : List ℕ) (good : GoodBook bs) where

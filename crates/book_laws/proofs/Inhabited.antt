@@ -2,10 +2,10 @@
 use native.Mathlib.Omega.{arith}
 use mathlib.Core.Path.{refl}
 use lib.ListN.{set}
-use Rattle.book.specs.meaning.Rule.{all}
-use Rattle.book.specs.meaning.Guide.{guideOf}
-use Rattle.book.specs.method.Each.{headerRule, recordsRule, homeRule, framedRule}
-use Rattle.book.specs.meaning.GoodBook.{GoodBook, editionRule, blocksRule, lengthRule, countsRule, rangeRule, kindRule, depthRule, tagByteRule, tagRule, requiredRule, selectorRule, codeRangeRule, maximumRule, fieldRangeRule, groupRule, lineRule, codeByteRule, codeRule, fieldRule, identifierFormRule, identifierRises, identifierRule, nextLiteralRule, expressionRule, noExpressionRule, modeRule, rowEndRule, requiredRowRule, rowRule, fieldRises, risingFieldsRule, triggerRule, fallRule, frameRule, framesRule, onlyFramesRule, otherThanRule, notAmongRule, sameTagRule, samePlaceRule, toldApartRule, pairRule, carrierRule, deeperRule, aroundRule, carrierGroupRule, structureRule}
+use Rattle.book.specs.method.Run.{all}
+use Rattle.guide.specs.meaning.Guide.{guideOf}
+use Rattle.book.specs.method.Each.{headerRule, recordsRule, homeRule, framedRule, lineRule, identifierRule, rowRule, structureRule}
+use Rattle.book.specs.meaning.GoodBook.{GoodBook, editionRule, blocksRule, lengthRule, countsRule, rangeRule, kindRule, depthRule, tagByteRule, tagRule, requiredRule, selectorRule, codeRangeRule, maximumRule, fieldRangeRule, groupRule, codeByteRule, codeRule, fieldRule, identifierFormRule, identifierRises, nextLiteralRule, expressionRule, noExpressionRule, modeRule, rowEndRule, requiredRowRule, fieldRises, risingFieldsRule, triggerRule, fallRule, frameRule, framesRule, onlyFramesRule, otherThanRule, notAmongRule, sameTagRule, samePlaceRule, toldApartRule, pairRule, carrierRule, deeperRule, aroundRule, carrierGroupRule}
 use Rattle.book_laws.proofs.Bytes.{k, second}
 use Rattle.book.proofs.Checking.{header-bad, records-bad, frame-bad, runs-good}
 

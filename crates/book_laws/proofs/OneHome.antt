@@ -8,10 +8,10 @@ use mathlib.Core.List.{List, [], _∷_}
 use mathlib.Core.Logic.{dite}
 use lib.ListN.{length, getD, length-take}
 use lib.Seq.{getD-take}
-use Rattle.book.specs.meaning.Numbers.{byteAt}
+use Rattle.guide.specs.meaning.Numbers.{byteAt}
 use Rattle.book.specs.meaning.Rule.{Holds}
-use Rattle.book.specs.meaning.Guide.{guideOf, codeAt}
-use Rattle.book.specs.meaning.View.{codeValue}
+use Rattle.guide.specs.meaning.Guide.{guideOf, codeAt}
+use Rattle.guide.specs.meaning.View.{codeValue}
 use Rattle.book.specs.meaning.GoodBook.{GoodBook, codeRule, codeByteRule, pairRule, sameTagRule, toldApartRule, notAmongRule, otherThanRule}
 use Rattle.book_laws.proofs.Clauses.{code-rule, line-codes, one-home}
 

@@ -1,4 +1,4 @@
--- Law one-outcome: for each public call, two outcomes that meet its promise are equal.
+-- Law one-outcome: for each public call of guide and of book, two outcomes that meet its promise are equal.
 -- The promises are the contracts of src/ themselves, as the check reads them (`Reads`), and no copies.
 use Prim.Native.Nat.{ℕ}
 use mathlib.Core.Path.{_≡_, refl, sym, _∙_}
@@ -6,49 +6,48 @@ use mathlib.Core.List.{List}
 use mathlib.Core.Bool.{Bool, true, false}
 use lib.Dec.{eqb}
 use borrow.Author.Tests.{eqb-true, eqb-false}
+use Rattle.reading_laws.proofs.OneOutcome.{One}
 use Rattle.book.specs.meaning.GoodBook.{Judged}
 use Rattle.book.proofs.check_book.Reads as check-book
-use Rattle.book.proofs.edition.edition_of.Reads as edition-of
-use Rattle.book.proofs.layout.lines.Reads as lines
-use Rattle.book.proofs.layout.codes.Reads as codes
-use Rattle.book.proofs.layout.fields.Reads as fields
-use Rattle.book.proofs.layout.identifiers.Reads as identifiers
-use Rattle.book.proofs.layout.conditions.Reads as conditions
-use Rattle.book.proofs.layout.carrier.Reads as carrier
-use Rattle.book.proofs.layout.kind.Reads as kind
-use Rattle.book.proofs.layout.depth.Reads as depth
-use Rattle.book.proofs.layout.tag_byte.Reads as tag-byte
-use Rattle.book.proofs.layout.tag.Reads as tag
-use Rattle.book.proofs.layout.required.Reads as required
-use Rattle.book.proofs.layout.selector_element.Reads as selector-element
-use Rattle.book.proofs.layout.selector_component.Reads as selector-component
-use Rattle.book.proofs.layout.first_code.Reads as first-code
-use Rattle.book.proofs.layout.code_count.Reads as code-count
-use Rattle.book.proofs.layout.maximum.Reads as maximum
-use Rattle.book.proofs.layout.first_field.Reads as first-field
-use Rattle.book.proofs.layout.field_count.Reads as field-count
-use Rattle.book.proofs.layout.code_length.Reads as code-length
-use Rattle.book.proofs.layout.code_byte.Reads as code-byte
-use Rattle.book.proofs.layout.code_end.Reads as code-end
-use Rattle.book.proofs.layout.code_low.Reads as code-low
-use Rattle.book.proofs.layout.code_high.Reads as code-high
-use Rattle.book.proofs.layout.element.Reads as element
-use Rattle.book.proofs.layout.component.Reads as component
-use Rattle.book.proofs.layout.presence.Reads as presence
-use Rattle.book.proofs.layout.form.Reads as form
-use Rattle.book.proofs.layout.longest.Reads as longest
-use Rattle.book.proofs.layout.first_value.Reads as first-value
-use Rattle.book.proofs.layout.value_count.Reads as value-count
-use Rattle.book.proofs.layout.field_end.Reads as field-end
-use Rattle.book.proofs.layout.identifier_byte.Reads as identifier-byte
-use Rattle.book.proofs.layout.mode.Reads as mode
-use Rattle.book.proofs.layout.joint.Reads as joint
-use Rattle.book.proofs.layout.condition.Reads as condition
-use Rattle.book.proofs.layout.row_end.Reads as row-end
-
--- one result: a promise speaks of a call's lifetimes κs, its arguments a, its result r, and its arguments at exit x
-abbrev pub One {ℓ} : {K : Type ℓ} {A R X : K → Type ℓ} → ((κs : K) → A κs → R κs → X κs → Type 0) → Type ℓ
-One P = (κs : _) (a : _) (r q : _) (x y : _) → P κs a r x → P κs a q y → r ≡ q
+use Rattle.guide.proofs.edition.edition_of.Reads as edition-of
+use Rattle.guide.proofs.blocks.blocks_of.Reads as blocks-of
+use Rattle.guide.proofs.head.number.Reads as number
+use Rattle.guide.proofs.layout.lines.Reads as lines
+use Rattle.guide.proofs.layout.codes.Reads as codes
+use Rattle.guide.proofs.layout.fields.Reads as fields
+use Rattle.guide.proofs.layout.identifiers.Reads as identifiers
+use Rattle.guide.proofs.layout.conditions.Reads as conditions
+use Rattle.guide.proofs.layout.carrier.Reads as carrier
+use Rattle.guide.proofs.layout.kind.Reads as kind
+use Rattle.guide.proofs.layout.depth.Reads as depth
+use Rattle.guide.proofs.layout.tag_byte.Reads as tag-byte
+use Rattle.guide.proofs.layout.tag.Reads as tag
+use Rattle.guide.proofs.layout.required.Reads as required
+use Rattle.guide.proofs.layout.selector_element.Reads as selector-element
+use Rattle.guide.proofs.layout.selector_component.Reads as selector-component
+use Rattle.guide.proofs.layout.first_code.Reads as first-code
+use Rattle.guide.proofs.layout.code_count.Reads as code-count
+use Rattle.guide.proofs.layout.maximum.Reads as maximum
+use Rattle.guide.proofs.layout.first_field.Reads as first-field
+use Rattle.guide.proofs.layout.field_count.Reads as field-count
+use Rattle.guide.proofs.layout.code_length.Reads as code-length
+use Rattle.guide.proofs.layout.code_byte.Reads as code-byte
+use Rattle.guide.proofs.layout.code_end.Reads as code-end
+use Rattle.guide.proofs.layout.code_low.Reads as code-low
+use Rattle.guide.proofs.layout.code_high.Reads as code-high
+use Rattle.guide.proofs.layout.element.Reads as element
+use Rattle.guide.proofs.layout.component.Reads as component
+use Rattle.guide.proofs.layout.presence.Reads as presence
+use Rattle.guide.proofs.layout.form.Reads as form
+use Rattle.guide.proofs.layout.longest.Reads as longest
+use Rattle.guide.proofs.layout.first_value.Reads as first-value
+use Rattle.guide.proofs.layout.value_count.Reads as value-count
+use Rattle.guide.proofs.layout.field_end.Reads as field-end
+use Rattle.guide.proofs.layout.identifier_byte.Reads as identifier-byte
+use Rattle.guide.proofs.layout.mode.Reads as mode
+use Rattle.guide.proofs.layout.joint.Reads as joint
+use Rattle.guide.proofs.layout.condition.Reads as condition
+use Rattle.guide.proofs.layout.row_end.Reads as row-end
 
 pub one-judged : (bs : List ℕ) (r q : ℕ) → Judged bs r → Judged bs q → r ≡ q
 one-judged bs r q x y = go (eqb r 0) (eqb q 0) (eqb-true r 0) (eqb-false r 0) (eqb-true q 0) (eqb-false q 0) refl refl
@@ -65,7 +64,13 @@ one-check-book κs a r q x y m n = one-judged _ r q m n
 pub one-edition-of : One edition-of.Post
 one-edition-of κs a r q x y m n = λ i. record { number = (m .number ∙ sym (n .number)) i; header = (m .header ∙ sym (n .header)) i; line = (m .line ∙ sym (n .line)) i; code = (m .code ∙ sym (n .code)) i; field = (m .field ∙ sym (n .field)) i; identifier = (m .identifier ∙ sym (n .identifier)) i; row = (m .row ∙ sym (n .row)) i }
 
+pub one-blocks-of : One blocks-of.Post
+one-blocks-of κs a r q x y m n = λ i. record { codes = (m .codes ∙ sym (n .codes)) i; fields = (m .fields ∙ sym (n .fields)) i; identifiers = (m .identifiers ∙ sym (n .identifiers)) i; rows = (m .rows ∙ sym (n .rows)) i; end = (m .end ∙ sym (n .end)) i }
+
 -- the accessors
+pub one-number : One number.Post
+one-number κs a r q x y m n = m .0 ∙ sym (n .0)
+
 pub one-lines : One lines.Post
 one-lines κs a r q x y m n = m .0 ∙ sym (n .0)
 

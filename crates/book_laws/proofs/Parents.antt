@@ -6,11 +6,24 @@ use native.Mathlib.Numerals.{add-one}
 use mathlib.Core.Path.{_≡_, refl, sym}
 use mathlib.Core.List.{List}
 use mathlib.Core.Logic.{_⊎_, inl, inr, dite}
-use Rattle.book.specs.meaning.Words.{segmentKind, groupKind}
-use Rattle.book.specs.meaning.Guide.{Guide, guideOf}
+use Rattle.guide.specs.meaning.Words.{segmentKind, groupKind}
+use Rattle.guide.specs.meaning.Guide.{Guide, guideOf}
 use Rattle.book.specs.meaning.GoodBook.{GoodBook, frameRule, triggerRule, fallRule}
-use Rattle.book.specs.meaning.Structure.{Encloses, ParentOf}
 use Rattle.book_laws.proofs.Clauses.{line-kind, first-frame, group-trigger, line-falls}
+
+-- ---- which groups a line lies in. 01, "Structure" and "Placing and judging"
+
+-- a group is around a later line where all lines from its next one up to that line lie deeper
+pub record Encloses (g : Guide) (p l : ℕ) : Type 0 where
+  pub group : g .kind p ≡ groupKind
+  pub first : 1 ≤ p
+  pub before : p < l
+  pub deeper : (x : ℕ) → p < x → x ≤ l → g .depth p < g .depth x
+
+-- the group that a line lies in directly
+pub record ParentOf (g : Guide) (p l : ℕ) : Type 0 where
+  pub encloses : Encloses g p l
+  pub one-less : g .depth l ≡ g .depth p + 1
 
 -- ---- neighbouring lines
 

@@ -9,12 +9,12 @@ use mathlib.Core.Logic.{_⊎_, inl, inr, dite, _↔_}
 use mathlib.Core.Bool.{true, false}
 use lib.ListN.{length, getD, length-take}
 use borrow.Author.Tests.{eq-eqb, ne-eqb, eqb-true, eqb-false}
-use Rattle.book.specs.meaning.Numbers.{byteAt}
-use Rattle.book.specs.meaning.Words.{segmentKind, groupKind, withElementPresence, textForm, numberForm}
+use Rattle.guide.specs.meaning.Numbers.{byteAt}
+use Rattle.guide.specs.meaning.Words.{segmentKind, groupKind, withElementPresence, textForm, numberForm}
 use Rattle.book.specs.meaning.Rule.{Holds, _or_}
-use Rattle.book.specs.meaning.Guide.{Guide, guideOf, lineAt}
+use Rattle.guide.specs.meaning.Guide.{Guide, guideOf, lineAt}
 use Rattle.book.specs.meaning.GoodBook.{GoodBook, capital, digit, tagRule, tagByteRule, selectorRule, codeRule, fieldRule, fieldPlace, rangeRule}
-use Rattle.book.specs.meaning.View.{numbersFrom, codeValue, Field, fieldOf, lineOf}
+use Rattle.guide.specs.meaning.View.{numbersFrom, codeValue, Field, fieldOf, lineOf}
 use Rattle.book_laws.proofs.Clauses.{line-kind, line-depth, line-tag, line-required, line-selector, line-codes, line-maximum, line-fields, group-is-plain, fields-rise, code-rule, field-rule}
 
 -- ---- what stands in a list of records is one of them

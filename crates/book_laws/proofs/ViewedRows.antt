@@ -5,15 +5,15 @@ use native.Mathlib.Decide.{decLt}
 use native.Mathlib.Nat.{mul-add-mod-self-right, mod-eq-of-lt, mod-lt, mul-add-div-right, div-eq-of-lt, div-add-mod', div-lt-iff-lt-mul}
 use mathlib.Core.Path.{_≡_, refl, sym, ap, _∙_}
 use mathlib.Core.List.{List, [], _∷_, _++_}
-use mathlib.Core.Logic.{_⊎_, inl, inr, dite}
+use mathlib.Core.Logic.{_⊎_, dite}
 use mathlib.Core.Bool.{true}
 use lib.ListN.{length, getD, replicate}
 use borrow.Author.Tests.{eq-eqb, ne-eqb, eqb-true}
-use Rattle.book.specs.meaning.Words.{mustMode, mayMode, mustIfMode, mayIfMode, allJoint, anyJoint}
+use Rattle.guide.specs.meaning.Words.{mustMode, mayMode, mustIfMode, mayIfMode, allJoint, anyJoint}
 use Rattle.book.specs.meaning.Rule.{Holds}
-use Rattle.book.specs.meaning.Guide.{Guide, guideOf}
+use Rattle.guide.specs.meaning.Guide.{Guide, guideOf}
 use Rattle.book.specs.meaning.GoodBook.{GoodBook, modeRule, rowEndRule, requiredRowRule, noExpressionRule, expressionRule, nextLiteralRule}
-use Rattle.book.specs.meaning.View.{Row, lineOf, rowNumber, rowOf, inUse}
+use Rattle.guide.specs.meaning.View.{Row, lineOf, rowNumber, rowOf, inUse}
 use Rattle.book_laws.proofs.Clauses.{row-rule}
 
 -- 01: "a byte is the number, plus 128 for "not"; numbers reach the condition count at most", "numbers at least 1"

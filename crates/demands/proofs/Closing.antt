@@ -1,16 +1,16 @@
 -- The closing theorem: what the contract of `tracksaddle_judge` admits keeps the three demands. The contract pins the verdict, the
 -- record's entries and the tables by definitions, and the demands are laws about those.
-use Prim.Native.Nat.{ℕ, zero, suc, _≤_, _<_}
+use Prim.Native.Nat.{ℕ, _≤_}
 use native.Mathlib.Omega.{arith}
-use mathlib.Core.Path.{_≡_, refl, sym, ap, ap₂, _∙_, subst}
+use mathlib.Core.Path.{_≡_, refl, sym, ap, _∙_, subst}
 use mathlib.Core.Logic.{_↔_, _⊎_, inl, inr}
-use mathlib.Core.List.{List, [], _∷_}
-use mathlib.Core.Bool.{Bool, true, false, cond}
-use lib.Dec.{eqb, leb}
+use mathlib.Core.List.{List, []}
+use mathlib.Core.Bool.{Bool, true, false}
+use lib.Dec.{eqb}
 use lib.ListN.{length, getD, take}
 use denote.Ref.{RefT}
 use borrow.Author.Tests.{le-leb, lt-leb, eqb-true, eqb-false}
-use Rattle.book.specs.meaning.Guide.{guideOf}
+use Rattle.guide.specs.meaning.Guide.{guideOf}
 use Rattle.reading.specs.meaning.Service.{standard}
 use Rattle.reading.specs.method.Starts.{startsFrom}
 use Rattle.framing.specs.meaning.Record.{place, verdict, answer, numbersOf}
@@ -181,12 +181,12 @@ module _ (h : Handed) where
   demand-3 : Demand3 standard (h .message) (h .book) (roomOf (h .tables))
   demand-3 = certain-standard .demand-3 (h .message) (h .book) (roomOf (h .tables))
 
+answered : (h : Handed) (l : Left) → Given h l → (v : Verdict) → verdictOn h ≡ v → Answers h l v
+answered h l g v e = (g .number ∙ ap (λ (x : Verdict). x .number) e, g .entries ∙ ap (λ (x : Verdict). asManyAsFit (numbersOf x) (h .entries)) e)
+
 -- where a whole verdict is shown, the answer is the verdict
 shown-is : (h : Handed) (l : Left) → Given h l → Shown h → (v : Verdict) → Answers h l v ↔ (verdictOn h ≡ v)
-shown-is h l g room v = (
-  λ a. one-verdict (verdictOn h) v (h .entries) room (sym (g .entries) ∙ a .1),
-  λ e. (g .number ∙ ap (λ (x : Verdict). x .number) e, g .entries ∙ ap (λ (x : Verdict). asManyAsFit (numbersOf x) (h .entries)) e),
-)
+shown-is h l g room v = (λ a. one-verdict (verdictOn h) v (h .entries) room (sym (g .entries) ∙ a .1), answered h l g v)
 
 other-number : (n : ℕ) → (n ≡ 0) ⊎ (12 ≤ n) → isRefusal n ≡ false
 other-number n (inl e) = ap isRefusal e
@@ -213,8 +213,8 @@ module _ (h : Handed) (l : Left) (p : Promised h l) where
   keeps : call.Kept h l
   keeps =
       record {
-        answer = (verdictOn h, (g .number, g .entries));
-        one-answer = λ room v w a b. sym (shown-is h l g room v .0 a) ∙ shown-is h l g room w .0 b;
+        verdict = (verdictOn h, (demand-2 h .fault (verdictOn h) .0 refl, (g .number, g .entries)));
+        one-verdict = λ room v w a b. sym (shown-is h l g room v .0 a) ∙ shown-is h l g room w .0 b;
         untouched = λ a b. g .tables ∙ demand-1 h .untouched (h .conditions) (sym (ap isRefusal (g .number)) ∙ refusal-number (l .number) (λ e. absurd (omega arith)) b);
         tree = λ a.
             subst (HoldTree standard (h .message) (h .book) (h .tables)) (sym (g .tables))
@@ -223,8 +223,8 @@ module _ (h : Handed) (l : Left) (p : Promised h l) where
         same-later = same-later;
         same-filled = same-filled;
         accepted = λ good fit known limits. (
-          λ z. let v = zero-verdict h (sym (g .number) ∙ z) in (v .0, demand-2 h .accepted good fit known limits (v .0) .0 (v .1)),
-          λ a. g .number ∙ ap (λ (x : Verdict). x .number) (demand-2 h .accepted good fit known limits (a .0) .1 (a .1)),
+          λ z. let v = zero-verdict h (sym (g .number) ∙ z) in (v .0, (demand-2 h .accepted good fit known limits (v .0) .0 (v .1), answered h l g (answer 0 (v .0)) (v .1))),
+          λ n a. answered h l g (answer 0 n) (demand-2 h .accepted good fit known limits n .1 a),
         );
         fault = λ room v. (λ a. demand-2 h .fault v .0 (shown-is h l g room v .0 a), λ t. shown-is h l g room v .1 (demand-2 h .fault v .1 t));
         sure = λ room v n. (

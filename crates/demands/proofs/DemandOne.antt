@@ -7,14 +7,14 @@ use mathlib.Core.Bool.{Bool, true, false, true≢false, cond}
 use lib.Dec.{eqb}
 use lib.ListN.{length, drop}
 use borrow.Author.Tests.{eqb-true, eqb-false}
-use Rattle.book.specs.meaning.Guide.{guideOf}
+use Rattle.guide.specs.meaning.Guide.{guideOf}
 use Rattle.book.specs.meaning.GoodBook.{GoodBook}
 use Rattle.reading.specs.meaning.Service.{GoodService}
 use Rattle.reading.specs.meaning.Message.{Message}
 use Rattle.reading.specs.meaning.WellFormed.{WellFormed, Outcome, Segments, BadAt}
 use Rattle.reading.specs.declared.service.Service.{Service}
 use Rattle.reading_laws.proofs.Accepting.{accepts}
-use Rattle.book.specs.meaning.View.{lineOf}
+use Rattle.guide.specs.meaning.View.{lineOf}
 use Rattle.placing.specs.meaning.Fitting.{fits, homeOf}
 use Rattle.placing.specs.meaning.Answers.{HaveHomes}
 use Rattle.placing.specs.method.Passes.{startsTable, homesTable, parentsTable}

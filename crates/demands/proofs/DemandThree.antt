@@ -9,7 +9,7 @@ use mathlib.Core.Logic.{_↔_}
 use lib.Dec.{eqb, leb}
 use lib.ListN.{length}
 use borrow.Author.Tests.{eqb-true, eqb-false, eq-eqb, ne-eqb, le-leb}
-use Rattle.book.specs.meaning.Guide.{guideOf}
+use Rattle.guide.specs.meaning.Guide.{guideOf}
 use Rattle.book.specs.meaning.GoodBook.{GoodBook}
 use Rattle.reading.specs.declared.service.Service.{Service}
 use Rattle.reading.specs.method.Starts.{startsFrom}
@@ -18,15 +18,15 @@ use Rattle.fields.specs.method.Testing.{firstFault}
 use Rattle.fields.specs.declared.passes.FirstFault.{FirstFault}
 use Rattle.fields.specs.declared.passes.FirstFault.the-variants.{At, Clean}
 use Rattle.rules.specs.meaning.Conditions.{Chosen, Fills, Learned, Learns}
-use Rattle.rules.specs.meaning.FirstRow.{firstRow}
+use Rattle.rules.specs.method.FirstFound.{firstRow}
 use Rattle.rules.specs.method.Identifiers.{identified}
 use Rattle.rules.specs.declared.finding.Finding.{Finding}
 use Rattle.rules.specs.declared.finding.Finding.the-variants.{Kept, Broken, Unsettled}
 use Rattle.rules.specs.declared.identifier.Identified.{Identified}
 use Rattle.rules.specs.declared.identifier.Identified.the-variants.{Known, Foreign}
 use Rattle.rules_laws.proofs.SureOrOpen.{IsUnsettled, settled, unsettled, later, inhabited}
-use Rattle.framing.specs.meaning.Record.{place, verdict, answer, orElse}
-use Rattle.framing.specs.method.Stages.{messageStage}
+use Rattle.framing.specs.meaning.Record.{place, verdict, answer}
+use Rattle.framing.specs.method.Stages.{orElse, messageStage}
 use Rattle.judging.specs.method.Table.{bookStage, areKnown, placingStage, refusal, identifierIn, identifierVerdict, placedVerdict, placedStage, judged}
 use Rattle.judging.specs.meaning.Answers.{rowsVerdict, fieldsVerdict}
 use Rattle.demands.specs.meaning.Demands.{Demand3}

@@ -8,7 +8,7 @@ use mathlib.Core.Bool.{Bool, true, false, true≢false}
 use mathlib.Core.Logic.{_↔_, inl, inr}
 use lib.ListN.{length, getD}
 use borrow.Author.Tests.{ne-eqb}
-use Rattle.book.specs.meaning.Guide.{guideOf}
+use Rattle.guide.specs.meaning.Guide.{guideOf}
 use Rattle.book.specs.meaning.GoodBook.{GoodBook}
 use Rattle.reading.specs.meaning.Service.{All, GoodService}
 use Rattle.reading.specs.meaning.Message.{Message, writeSegments, render}
@@ -20,7 +20,7 @@ use Rattle.placing.specs.meaning.Placement.{parentsOf}
 use Rattle.placing_laws.proofs.Homes.{fits-home}
 use Rattle.fields.specs.meaning.Number.{GoodMark}
 use Rattle.rules.specs.meaning.Conditions.{Assignment, isUnknown, told, Filling}
-use Rattle.rules.specs.meaning.FirstRow.{Entry, entriesOf}
+use Rattle.rules.specs.meaning.Entries.{Entry, entriesOf}
 use Rattle.rules_laws.proofs.Fillings.{Agree}
 use Rattle.rules_laws.proofs.Keys.{Looks, looks}
 use Rattle.rules_laws.proofs.OnTree.{rules-on-tree}

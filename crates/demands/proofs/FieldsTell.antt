@@ -6,9 +6,9 @@ use mathlib.Core.List.{List, [], _∷_, _++_, map, append-assoc}
 use mathlib.Core.Bool.{Bool, true, false, true≢false, false≢true}
 use mathlib.Core.Logic.{inl, inr}
 use lib.ListN.{length, length-append}
-use Rattle.book.specs.meaning.Guide.{Guide, guideOf}
+use Rattle.guide.specs.meaning.Guide.{Guide, guideOf}
 use Rattle.book.specs.meaning.GoodBook.{GoodBook}
-use Rattle.book.specs.meaning.View.{lineOf}
+use Rattle.guide.specs.meaning.View.{lineOf}
 use Rattle.reading.specs.meaning.Service.{All, GoodService}
 use Rattle.reading.specs.meaning.Message.{Segment, Message, ValidSegment, writeSegments, render}
 use Rattle.reading.specs.meaning.Component.{valueAt}

@@ -5,7 +5,7 @@ use mathlib.Core.List.{List}
 use mathlib.Core.Bool.{Bool, cond, _&&_}
 use lib.Dec.{eqb}
 use lib.ListN.{length}
-use Rattle.book.specs.meaning.Guide.{guideOf}
+use Rattle.guide.specs.meaning.Guide.{guideOf}
 use Rattle.reading.specs.declared.service.Service.{Service}
 use Rattle.placing.specs.meaning.Plan.{planIn}
 use Rattle.placing.specs.method.Passes.{homesFrom, tested}

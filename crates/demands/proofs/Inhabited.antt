@@ -5,12 +5,12 @@ use native.Mathlib.Omega.{arith}
 use mathlib.Core.Path.{_≡_, refl, sym, _∙_, subst}
 use mathlib.Core.List.{List, [], _∷_, _++_}
 use lib.ListN.{length}
-use Rattle.book.specs.meaning.Guide.{guideOf}
+use Rattle.guide.specs.meaning.Guide.{guideOf}
 use Rattle.book_laws.proofs.Bytes.{k}
 use Rattle.book_laws.proofs.Inhabited.{k-is-good}
 use Rattle.reading.specs.meaning.Limits.{mostBytes, mostSegments}
 use Rattle.reading.specs.meaning.Service.{standard, isData, isTagByte}
-use Rattle.reading.specs.meaning.WellFormed.{WellFormed, Segments}
+use Rattle.reading.specs.meaning.WellFormed.{Segments}
 use Rattle.reading.specs.method.Machine.{kindOf, scanOn, scanned}
 use Rattle.reading.proofs.Scanning.{segments-is}
 use Rattle.reading_laws.proofs.Accepting.{accepts}

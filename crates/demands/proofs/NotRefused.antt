@@ -5,7 +5,7 @@ use mathlib.Core.Path.{_≡_, sym, ap, _∙_, subst}
 use mathlib.Core.List.{List, map}
 use lib.ListN.{length}
 use borrow.Author.Tests.{leb-true}
-use Rattle.book.specs.meaning.Guide.{guideOf}
+use Rattle.guide.specs.meaning.Guide.{guideOf}
 use Rattle.book.specs.meaning.GoodBook.{GoodBook}
 use Rattle.reading.specs.meaning.Limits.{mostBytes, mostSegments}
 use Rattle.reading.specs.meaning.Service.{GoodService}

@@ -6,7 +6,7 @@ use mathlib.Core.List.{List, [], _∷_, map, append-nil}
 use mathlib.Core.Logic.{_↔_, inl, inr}
 use lib.ListN.{length, getD}
 use borrow.Author.Tests.{le-leb}
-use Rattle.book.specs.meaning.Guide.{Guide, guideOf}
+use Rattle.guide.specs.meaning.Guide.{Guide, guideOf}
 use Rattle.book.specs.meaning.GoodBook.{GoodBook, identifierFormRule}
 use Rattle.book_laws.proofs.Clauses.{identifier-rule}
 use Rattle.reading.specs.meaning.Service.{All, GoodService}
@@ -29,7 +29,7 @@ use Rattle.reading.specs.meaning.Digit.{isDigit}
 use Rattle.fields.specs.meaning.Number.{GoodMark}
 use Rattle.fields.specs.method.Testing.{firstFault}
 use Rattle.fields.specs.declared.passes.FirstFault.{FirstFault}
-use Rattle.rules.specs.meaning.FirstRow.{Entry, entriesOf}
+use Rattle.rules.specs.meaning.Entries.{Entry, entriesOf}
 use Rattle.rules.specs.meaning.Identifiers.{identifierValue}
 use Rattle.rules.specs.method.Identifiers.{identified}
 use Rattle.rules.specs.declared.identifier.Identified.{Identified}
@@ -46,7 +46,7 @@ use Rattle.demands.specs.meaning.Table.{Carries, InBook, RowsSay, RulesS
 use Rattle.framing.specs.declared.message.Room.{Room}
 use Rattle.framing.specs.declared.verdict.Place.{Place}
 use Rattle.framing.specs.declared.verdict.Verdict.{Verdict}
-use Rattle.framing_laws.proofs.MessageMeans.{digit-word}
+use Rattle.reading_laws.proofs.Services.{digit-word}
 use Rattle.demands.proofs.RowsOnTree.{rows-on-tree}
 use Rattle.rules.specs.method.Scanning.{scannedRow}
 use Rattle.rules.specs.declared.finding.Finding.{Finding}

@@ -4,7 +4,7 @@ use native.Mathlib.Omega.{arith}
 use mathlib.Core.Path.{_≡_, refl, sym, ap, ap₂, _∙_, subst}
 use mathlib.Core.List.{List, [], _∷_, _++_, map, append-assoc}
 use lib.ListN.{length, length-append}
-use Rattle.book.specs.meaning.Guide.{guideOf}
+use Rattle.guide.specs.meaning.Guide.{guideOf}
 use Rattle.book.specs.meaning.GoodBook.{GoodBook}
 use Rattle.rules.specs.method.Scanning.{scannedRow}
 use Rattle.placing_laws.proofs.Structured.{structured}
@@ -21,7 +21,7 @@ use Rattle.placing.specs.meaning.Fitting.{homeOf}
 use Rattle.placing.specs.meaning.Placement.{Placed, parentsOf}
 use Rattle.reading.specs.meaning.Starts.{startsIn, startsOf}
 use Rattle.placing.specs.method.Passes.{entry}
-use Rattle.rules.specs.meaning.FirstRow.{firstRow}
+use Rattle.rules.specs.method.FirstFound.{firstRow}
 use Rattle.rules_laws.proofs.Scanned as rows
 
 -- ---- the entries of the starts table are the starts

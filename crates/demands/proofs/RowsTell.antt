@@ -3,18 +3,18 @@ use Prim.Native.Nat.{ℕ, _≤_}
 use native.Mathlib.Omega.{arith}
 use mathlib.Core.Path.{_≡_, refl, sym, ap, _∙_, subst}
 use mathlib.Core.List.{List, [], _∷_}
-use mathlib.Core.Bool.{Bool, true, false, true≢false, false≢true, cond}
-use mathlib.Core.Logic.{_↔_, _⊎_, inl, inr}
+use mathlib.Core.Bool.{Bool, true, false, true≢false, cond}
+use mathlib.Core.Logic.{_↔_, inl, inr}
 use Rattle.reading.specs.meaning.Service.{All}
 use Rattle.fields.specs.meaning.Fields.{In, here, there}
-use Rattle.rules.specs.meaning.Conditions.{Assignment, isUnknown, Filling, some, every, firstUnknown}
-use Rattle.rules.specs.meaning.FirstRow.{Entry, reported, foundAmong}
-use Rattle.rules.specs.declared.finding.Finding.{Finding}
-use Rattle.rules.specs.declared.finding.Finding.the-variants.{Kept, Broken, Unsettled}
+use Rattle.rules.specs.meaning.Conditions.{isUnknown}
+use Rattle.rules.specs.method.FirstFound.{some, every, firstUnknown, foundAmong}
+use Rattle.rules.specs.meaning.Entries.{Entry}
+use Rattle.rules.specs.declared.finding.Finding.the-variants.{Broken, Unsettled}
 use Rattle.rules_laws.proofs.Fillings.{some-filling, every-filling}
 use Rattle.rules_laws.proofs.Findings.{Names, Lowest}
 use Rattle.rules_laws.proofs.Keys.{Looks}
-use Rattle.framing.specs.meaning.Record.{place, verdict, answer}
+use Rattle.framing.specs.meaning.Record.{place, verdict}
 use Rattle.judging.specs.meaning.Answers.{rowsVerdict}
 use Rattle.demands.specs.meaning.Table.{SomeBreaks, EveryBreaks, LowestUnknown, RowsSay}
 use Rattle.framing.specs.declared.verdict.Verdict.{Verdict}

@@ -4,10 +4,10 @@ use Prim.Native.Nat.{ℕ}
 use mathlib.Core.Path.{_≡_, refl}
 use mathlib.Core.List.{List, [], _∷_, _++_}
 use Rattle.book_laws.proofs.Bytes.{k}
-use Rattle.book.specs.meaning.Guide.{guideOf}
-use Rattle.book.specs.meaning.Rule.{all}
-use Rattle.book.specs.method.Each.{headerRule, recordsRule, homeRule, framedRule}
-use Rattle.book.specs.meaning.GoodBook.{editionRule, blocksRule, lengthRule, countsRule, rangeRule, kindRule, depthRule, tagByteRule, tagRule, requiredRule, selectorRule, codeRangeRule, maximumRule, fieldRangeRule, groupRule, lineRule, codeByteRule, codeRule, fieldRule, identifierFormRule, identifierRises, identifierRule, nextLiteralRule, expressionRule, noExpressionRule, modeRule, rowEndRule, requiredRowRule, rowRule, fieldRises, risingFieldsRule, triggerRule, fallRule, frameRule, framesRule, onlyFramesRule, otherThanRule, notAmongRule, sameTagRule, samePlaceRule, toldApartRule, pairRule, carrierRule, deeperRule, aroundRule, carrierGroupRule, structureRule}
+use Rattle.guide.specs.meaning.Guide.{guideOf}
+use Rattle.book.specs.method.Run.{all}
+use Rattle.book.specs.method.Each.{headerRule, recordsRule, homeRule, framedRule, lineRule, identifierRule, rowRule, structureRule}
+use Rattle.book.specs.meaning.GoodBook.{editionRule, blocksRule, lengthRule, countsRule, rangeRule, kindRule, depthRule, tagByteRule, tagRule, requiredRule, selectorRule, codeRangeRule, maximumRule, fieldRangeRule, groupRule, codeByteRule, codeRule, fieldRule, identifierFormRule, identifierRises, nextLiteralRule, expressionRule, noExpressionRule, modeRule, rowEndRule, requiredRowRule, fieldRises, risingFieldsRule, triggerRule, fallRule, frameRule, framesRule, onlyFramesRule, otherThanRule, notAmongRule, sameTagRule, samePlaceRule, toldApartRule, pairRule, carrierRule, deeperRule, aroundRule, carrierGroupRule}
 use Rattle.reading.specs.meaning.Service.{standard, isData, isTagByte}
 use Rattle.reading.specs.meaning.Component.{valueFrom, sameComponent}
 use Rattle.reading.specs.method.Machine.{kindOf, scanOn, endOn, isHere, seekOn}
@@ -24,7 +24,7 @@ use Rattle.fields.specs.meaning.Number.{figures}
 use Rattle.fields.specs.method.Number.{startsDigit, afterDigits, isNone, areDigits, endsNumber, withoutSign, isNumber}
 use Rattle.fields.specs.method.Parts.{cut, hasBytes, anyBytes}
 use Rattle.fields.specs.method.Testing.{hasCode, fitsText, fitsNumber, fits, isMissing, isBroken, namesFirst, testComponent, testAbsent, testComponents, testRest, testElements, faultAt, firstFault}
-use Rattle.rules.specs.meaning.Conditions.{firstUnknown}
+use Rattle.rules.specs.method.FirstFound.{firstUnknown}
 use Rattle.rules.specs.meaning.Rows.{literal}
 use Rattle.rules.specs.method.Scanning.{reading, instancesFrom, scannedIn, scannedFrom}
 use Rattle.rules.specs.method.Identifiers.{identifiedFrom}

@@ -8,9 +8,9 @@ use mathlib.Core.Logic.{_↔_, inl, inr}
 use lib.Dec.{eqb, leb}
 use lib.ListN.{length}
 use borrow.Author.Tests.{eq-eqb, ne-eqb, eqb-true, eqb-false, le-leb, leb-true}
-use Rattle.book.specs.meaning.Guide.{Guide, guideOf}
+use Rattle.guide.specs.meaning.Guide.{Guide, guideOf}
 use Rattle.book.specs.meaning.GoodBook.{GoodBook, frameRule}
-use Rattle.book.specs.meaning.View.{lineOf}
+use Rattle.guide.specs.meaning.View.{lineOf}
 use Rattle.book_laws.proofs.Clauses.{last-frame, counts}
 use Rattle.reading.specs.meaning.Service.{All, GoodService}
 use Rattle.reading.specs.meaning.Message.{Segment, Message, ValidTag, ValidSegment}

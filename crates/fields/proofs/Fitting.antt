@@ -7,7 +7,7 @@ use mathlib.Core.Bool.{Bool, true, false, cond, not, _&&_, _||_}
 use lib.Dec.{eqb, leb}
 use lib.ListN.{length}
 use borrow.Author.Tests.{eq-eqb, ne-eqb, le-leb, lt-leb}
-use Rattle.book.specs.meaning.Guide.{Guide}
+use Rattle.guide.specs.meaning.Guide.{Guide}
 use Rattle.placing.specs.method.Fitting.{isAnyCode}
 use Rattle.reading.specs.meaning.Component.{valueOf}
 use Rattle.reading.specs.declared.service.Service.{Service}

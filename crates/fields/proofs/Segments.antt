@@ -6,7 +6,7 @@ use mathlib.Core.Path.{_≡_, refl, sym, ap, ap₂, _∙_, subst}
 use mathlib.Core.List.{List, [], _∷_}
 use lib.ListN.{length, getD, take, drop, drop-of-length-le, length-take}
 use lib.Seq.{drop-cons, getD-take}
-use Rattle.book.specs.meaning.Guide.{Guide}
+use Rattle.guide.specs.meaning.Guide.{Guide}
 use Rattle.reading.specs.declared.service.Service.{Service}
 use Rattle.fields.specs.method.Testing.{faultAt, InReach, thenFirst, firstFault, FirstInReach}
 use Rattle.fields.specs.declared.fault.Fault.{Fault}

@@ -12,11 +12,11 @@ use lib.Dec.{eqb}
 use lib.ListN.{length, drop}
 use lib.Seq.{drop-drop}
 use borrow.Author.Tests.{eq-eqb, ne-eqb}
-use Rattle.book.specs.meaning.Guide.{Guide}
-use Rattle.book.specs.meaning.View.{numbersFrom}
+use Rattle.guide.specs.meaning.Guide.{Guide}
+use Rattle.guide.specs.meaning.View.{numbersFrom}
 use Rattle.reading.specs.declared.service.Service.{Service}
 use Rattle.fields.specs.method.Parts.{Raw, Cut, cut, componentsIn, furtherIn, anyBytes}
-use Rattle.fields.specs.method.Testing.{isMissing, isBroken, names, namesFirst, Tested, broken, kept, thenTest, testUnnamed, testComponent, testAbsent, testComponents, testElement, thenFault, testRest, testElements, faultAt, Near, InReach}
+use Rattle.fields.specs.method.Testing.{isMissing, isBroken, namesFirst, Tested, broken, kept, thenTest, testUnnamed, testComponent, testAbsent, testComponents, testElement, thenFault, testRest, testElements, faultAt, Near, InReach}
 use Rattle.fields.specs.method.Kept.{Ends, opensComponent, opensElement, elementsIn, rawIn, behindComponent, behindElement, Reads, fieldsFrom, testedBy, StepWithin, Closes, ClosesBy, whenClosed}
 use Rattle.fields.specs.declared.parts.Part.{Part}
 use Rattle.fields.specs.declared.element.Step.{Step}

@@ -3,13 +3,13 @@ ghost use mathlib.Core.Path.{_≡_};
 ghost use Prim.Native.Nat.{_+_, _≤_, _^_};
 ghost use mathlib.Core.Bool.{false};
 ghost use lib.ListN.{length, drop};
-ghost use Rattle.book.specs.meaning.Guide.{guideOf};
+ghost use Rattle.guide.specs.meaning.Guide.{guideOf};
 ghost use Rattle.fields.specs.method.Parts.{cut, componentsIn};
 ghost use Rattle.fields.specs.method.Testing.{kept, namesFirst, testComponent, testAbsent, testComponents, testElement};
 ghost use Rattle.fields.specs.method.Kept.{Counts, fieldsFrom, testedBy, StepWithin, ClosesBy, whenClosed};
 use crate::field;
 use crate::parts;
-use book::layout;
+use guide::layout;
 use reading::service::Service;
 
 // Some fields have been tested: this component is at fault, or that field is the next.

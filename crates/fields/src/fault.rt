@@ -2,14 +2,14 @@
 ghost use mathlib.Core.Path.{_≡_};
 ghost use Prim.Native.Nat.{_+_, _≤_};
 ghost use lib.ListN.{length, drop};
-ghost use Rattle.book.specs.meaning.Guide.{guideOf};
+ghost use Rattle.guide.specs.meaning.Guide.{guideOf};
 ghost use Rattle.fields.specs.method.Testing.{testRest, faultAt, InReach};
 ghost use Rattle.fields.specs.method.Kept.{fieldsFrom};
 use crate::element;
 use crate::element::Closing;
 use crate::field;
 use crate::parts;
-use book::layout;
+use guide::layout;
 use reading::service::Service;
 
 // 01, number 12: the smallest (element, component) at fault, or none.

@@ -1,16 +1,16 @@
 // One field and the component that it names, as it is written.
 ghost use mathlib.Core.Path.{_≡_};
 ghost use lib.Dec.{leb};
-ghost use Rattle.book.specs.meaning.Guide.{guideOf};
+ghost use Rattle.guide.specs.meaning.Guide.{guideOf};
 ghost use Rattle.fields.specs.meaning.Number.{figures};
 ghost use Rattle.fields.specs.method.Testing.{hasCode, fitsText, fitsNumber, fits, isMissing, isBroken};
 ghost use Rattle.fields.specs.method.Kept.{Counts};
 use crate::number;
-use book::layout;
-use book::words::FORM_NUMBER;
-use book::words::PRESENCE_EMPTY;
-use book::words::PRESENCE_MUST;
-use book::words::PRESENCE_WITH_ELEMENT;
+use guide::layout;
+use guide::words::FORM_NUMBER;
+use guide::words::PRESENCE_EMPTY;
+use guide::words::PRESENCE_MUST;
+use guide::words::PRESENCE_WITH_ELEMENT;
 use placing::code;
 use reading::service::Service;
 

@@ -7,7 +7,5 @@ mod number;
 mod parts;
 mod passes;
 
-pub use fault::Fault;
-pub use fault::find_fault;
 pub use passes::FirstFault;
 pub use passes::test_fields;

@@ -6,7 +6,6 @@ ghost use Prim.Native.Nat.{_≤_};
 ghost use lib.Dec.{eqb};
 ghost use lib.ListN.{length, drop};
 ghost use Rattle.fields.specs.meaning.Number.{minus, figures};
-ghost use Rattle.reading.specs.meaning.Digit.{isDigit};
 ghost use Rattle.fields.specs.method.Number.{startsDigit, afterDigits, areDigits, endsNumber, withoutSign, isNumber};
 use reading::bytes;
 use reading::service::Service;

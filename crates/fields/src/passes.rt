@@ -1,7 +1,7 @@
 // The pass over a message whose segments have their homes.
 ghost use mathlib.Core.Path.{_≡_};
 ghost use lib.ListN.{length, take};
-ghost use Rattle.book.specs.meaning.Guide.{guideOf};
+ghost use Rattle.guide.specs.meaning.Guide.{guideOf};
 ghost use Rattle.fields.specs.method.Testing.{firstFault, FirstInReach};
 use crate::fault;
 use crate::fault::Fault;

@@ -8,9 +8,9 @@ use mathlib.Core.Logic.{_↔_}
 use lib.Dec.{eqb, leb, eqb·suc-zero}
 use lib.ListN.{length}
 use borrow.Author.Tests.{eq-eqb, eqb-true, eqb-false, leb-true, le-leb, not-false}
-use Rattle.book.specs.meaning.Guide.{Guide, guideOf}
+use Rattle.guide.specs.meaning.Guide.{Guide, guideOf}
 use Rattle.book.specs.meaning.GoodBook.{GoodBook, fieldRule, rangeRule}
-use Rattle.book.specs.meaning.View.{numbersFrom, codeValue, fieldOf}
+use Rattle.guide.specs.meaning.View.{numbersFrom, codeValue, fieldOf}
 use Rattle.book_laws.proofs.Clauses.{field-rule}
 use Rattle.placing.specs.meaning.Fitting.{isAmong}
 use Rattle.reading.proofs.Booleans.{both, left, right, neither, or-true}

@@ -5,8 +5,8 @@ use native.Mathlib.Omega.{arith}
 use mathlib.Core.Path.{_≡_, refl}
 use mathlib.Core.List.{List, [], _∷_}
 use lib.ListN.{take}
-use Rattle.book.specs.meaning.Guide.{guideOf}
-use Rattle.book.specs.meaning.View.{lineOf}
+use Rattle.guide.specs.meaning.Guide.{guideOf}
+use Rattle.guide.specs.meaning.View.{lineOf}
 use Rattle.book_laws.proofs.Bytes.{k, second}
 use Rattle.book_laws.proofs.Inhabited.{k-is-good}
 use Rattle.placing.specs.method.Fitting.{spells, isCode, isAnyCode}

@@ -7,9 +7,9 @@ use native.Mathlib.Decide.{decLt}
 use mathlib.Core.Path.{_≡_, refl, sym, ap, _∙_, subst}
 use mathlib.Core.List.{List, [], _∷_, map, List·Memᴰ, List·Memᴰ·head, List·Memᴰ·tail}
 use mathlib.Core.Logic.{dite, ⊎-elim}
-use Rattle.book.specs.meaning.Guide.{Guide, guideOf}
+use Rattle.guide.specs.meaning.Guide.{Guide, guideOf}
 use Rattle.book.specs.meaning.GoodBook.{GoodBook}
-use Rattle.book.specs.meaning.View.{numbersFrom, Field, fieldOf, lineOf}
+use Rattle.guide.specs.meaning.View.{numbersFrom, Field, fieldOf, lineOf}
 use Rattle.book_laws.proofs.Clauses.{line-fields}
 use Rattle.book_laws.proofs.ViewedLines.{InOrder, good-field, line-fields-in-order}
 use Rattle.reading.proofs.Booleans.{left}

@@ -1,13 +1,13 @@
 -- Law first-fault: the pass over a message answers the first segment with a fault, by induction over the segments. With the law
 -- field-fault this is 01's number 12.
-use Prim.Native.Nat.{ℕ, zero, suc, _+_, _<_}
+use Prim.Native.Nat.{ℕ, zero, suc, _<_}
 use native.Mathlib.Omega.{arith}
 use mathlib.Core.Path.{_≡_, refl, _∙_}
 use mathlib.Core.List.{List, [], _∷_}
-use lib.ListN.{length, getD}
-use Rattle.book.specs.meaning.Guide.{Guide}
+use lib.ListN.{length}
+use Rattle.guide.specs.meaning.Guide.{Guide}
 use Rattle.reading.specs.declared.service.Service.{Service}
-use Rattle.fields.specs.method.Testing.{faultAt, thenFirst, firstFault, CleanAt, FirstAt, FirstMeans}
+use Rattle.fields.specs.method.Testing.{faultAt, thenFirst, firstFault, CleanAt, FirstMeans}
 use Rattle.fields.specs.declared.fault.Fault.{Fault}
 use Rattle.fields.specs.declared.fault.Fault.the-variants.{At, Clean}
 use Rattle.fields.specs.declared.passes.FirstFault.{FirstFault}

@@ -9,8 +9,8 @@ use mathlib.Core.Bool.{Bool, true, false, cond, true≢false, false≢true, _&&_
 use mathlib.Core.Logic.{dite}
 use lib.Dec.{eqb}
 use borrow.Author.Tests.{eqb-true, eqb-false}
-use Rattle.book.specs.meaning.Guide.{Guide}
-use Rattle.book.specs.meaning.View.{Field, fieldOf}
+use Rattle.guide.specs.meaning.Guide.{Guide}
+use Rattle.guide.specs.meaning.View.{Field, fieldOf}
 use Rattle.reading.specs.declared.service.Service.{Service}
 use Rattle.fields.specs.meaning.Fields.{Values, In, HasBytes, Faulty, Before}
 use Rattle.fields.specs.meaning.Fields.In.{here, there}

@@ -4,16 +4,17 @@ use Prim.Native.Nat.{ℕ, _<_}
 use native.Mathlib.Omega.{arith}
 use mathlib.Core.Path.{_≡_, refl, sym, ap, _∙_, subst}
 use mathlib.Core.List.{List, [], _∷_, _++_, append-nil}
-use mathlib.Core.Bool.{Bool, true, false, cond, true≢false, false≢true, _||_}
+use mathlib.Core.Bool.{Bool, true, false, cond, false≢true}
 use mathlib.Core.Logic.{_↔_}
 use lib.Dec.{eqb, leb}
 use lib.ListN.{length}
-use borrow.Author.Tests.{eq-eqb, ne-eqb, eqb-true, leb-true, le-leb}
+use borrow.Author.Tests.{eq-eqb, ne-eqb, eqb-true, leb-true}
 use Rattle.reading.specs.meaning.Service.{All, GoodService, standard, isWordByte, mustRelease}
 use Rattle.reading.specs.meaning.Message.{Component, released, writeComponent}
 use Rattle.reading.specs.meaning.Component.{valueFrom, keptOrReleased, valueOf}
 use Rattle.reading.specs.declared.service.Service.{Service}
-use Rattle.reading_laws.proofs.OneReading.{value-written}
+use Rattle.reading_laws.proofs.Services.{digit-word}
+use Rattle.reading_laws.proofs.OneReading.{not-release, value-written}
 use Rattle.reading.proofs.Booleans.{both, left, right, same-test}
 use Rattle.reading.specs.meaning.Digit.{isDigit}
 use Rattle.fields.specs.meaning.Number.{Digits, minus, Fraction, none, after, ValidFraction, writeFraction, writeSign, IsNumber, figures, GoodMark}
@@ -166,19 +167,11 @@ module _ (s : Service) where
   plain-written [] h = refl
   plain-written (b ∷ bs) h = ap (λ (t : Bool). released t (s .release) b (writeComponent s bs [])) (h .0) ∙ ap (_∷_ b) (plain-written bs (h .1))
 
-  no-release : (b : ℕ) → mustRelease s b ≡ false → eqb b (s .release) ≡ false
-  unfolding mustRelease
-  no-release b h = go (eqb b (s .release)) h
-    where
-      go : (t : Bool) → t || (eqb b (s .component) || (eqb b (s .element) || eqb b (s .terminator))) ≡ false → t ≡ false
-      go true e = absurd (true≢false e)
-      go false e = refl
-
   plain-value : (x : List ℕ) → All Plain x → valueOf s x ≡ x
   unfolding valueFrom
   plain-value [] h = refl
   plain-value (b ∷ bs) h =
-      ap (λ (t : Bool). keptOrReleased t b (valueFrom s false bs) (valueFrom s true bs)) (no-release b (h .0)) ∙ ap (_∷_ b) (plain-value bs (h .1))
+      ap (λ (t : Bool). keptOrReleased t b (valueFrom s false bs) (valueFrom s true bs)) (not-release s b (h .0)) ∙ ap (_∷_ b) (plain-value bs (h .1))
 
 all-both : (P : ℕ → Type 0) (xs ys : List ℕ) → All P xs → All P ys → All P (xs ++ ys)
 all-both P [] ys h k = k
@@ -187,11 +180,6 @@ all-both P (x ∷ xs) ys h k = (h .0, all-both P xs ys (h .1) k)
 all-map : (P Q : ℕ → Type 0) → ((b : ℕ) → P b → Q b) → (xs : List ℕ) → All P xs → All Q xs
 all-map P Q f [] h = tt
 all-map P Q f (x ∷ xs) h = (f x (h .0), all-map P Q f xs (h .1))
-
-digit-word : (b : ℕ) → isDigit b ≡ true → isWordByte b ≡ true
-unfolding isDigit isWordByte
-digit-word b h =
-    simp (le-leb 0x30 b (leb-true 0x30 b (left (leb 0x30 b) (leb b 0x39) h)), le-leb b 0x39 (leb-true b 0x39 (right (leb 0x30 b) (leb b 0x39) h)))
 
 minus-word : isWordByte minus ≡ true
 unfolding isWordByte

@@ -6,7 +6,7 @@ use native.Mathlib.Decide.{decLt}
 use mathlib.Core.Path.{_≡_, refl, sym, subst}
 use mathlib.Core.List.{List, [], _∷_}
 use mathlib.Core.Logic.{dite}
-use Rattle.book.specs.meaning.View.{Field}
+use Rattle.guide.specs.meaning.View.{Field}
 use Rattle.reading.specs.declared.service.Service.{Service}
 use Rattle.fields.specs.meaning.Fields.{Values, In, Breaks, Faulty, Before, LeastFault}
 use Rattle.fields.specs.meaning.Fields.In.{here, there}

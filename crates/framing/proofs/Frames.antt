@@ -3,7 +3,7 @@ use Prim.Native.Nat.{ℕ, suc, _+_, _-_, _≤_, _<_}
 use native.Mathlib.Omega.{arith}
 use native.Mathlib.Numerals.{add-one}
 use mathlib.Core.Path.{_≡_, refl, sym, ap, ap₂, _∙_}
-use mathlib.Core.List.{List, [], _∷_}
+use mathlib.Core.List.{List, _∷_}
 use mathlib.Core.Bool.{Bool, true, false, cond, not, _||_}
 use lib.Dec.{eqb}
 use lib.ListN.{length}
@@ -21,7 +21,7 @@ use Rattle.reading.proofs.Starts.{starts-found, starts-end}
 use Rattle.framing.specs.method.Stages.{isMisplaced, frameFrom, frameOf}
 use Rattle.framing.specs.method.Survey.{surveyBy, surveyed, misplacedBy, frameBy}
 use Rattle.framing.specs.declared.survey.Frame.{Frame}
-use Rattle.framing.specs.declared.survey.Frame.the-variants.{Misplaced, Closes}
+use Rattle.framing.specs.declared.survey.Frame.the-variants.{Misplaced}
 use Rattle.framing.specs.declared.survey.Survey.the-variants.{BadAt, Segments}
 
 -- the two tests of one segment

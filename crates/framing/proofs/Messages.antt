@@ -8,7 +8,7 @@ use lib.Dec.{leb, ltb}
 use lib.ListN.{length}
 use borrow.Author.Tests.{lt-leb, le-leb, leb-true}
 use Rattle.reading.specs.meaning.Limits.{mostBytes, mostSegments}
-use Rattle.reading.specs.method.Machine.{stepped, isDead, isStart, ended, pick, finished, scanOn, scanned}
+use Rattle.reading.specs.method.Machine.{stepped, isDead, isStart, ended, pick, scanOn, scanned}
 use Rattle.reading.specs.meaning.Component.{sameComponent}
 use Rattle.reading.specs.declared.machine.State.{State}
 use Rattle.reading.specs.declared.service.Service.{Service}
@@ -18,8 +18,6 @@ use Rattle.framing.specs.meaning.Record.{answer}
 use Rattle.framing.specs.method.Decimal.{isDecimal}
 use Rattle.framing.specs.method.Stages.{isSized, hasRoom, frameOf, componentAt, closingStage, frameStage, countStage, scanStage, messageStage}
 use Rattle.framing.specs.declared.message.Room.{Room}
-use Rattle.framing.specs.declared.survey.Frame.{Frame}
-use Rattle.framing.specs.declared.verdict.Verdict.{Verdict}
 
 -- number 4's place lies within the message, or at its end
 bad-is : {j k : ℕ} → BadAt j ≡ BadAt k → j ≡ k

@@ -14,9 +14,9 @@ use Rattle.reading.specs.method.Machine.{scanned}
 use Rattle.reading.specs.declared.service.Service.{Service}
 use Rattle.reading.proofs.Booleans.{halves}
 use Rattle.framing.specs.meaning.Table.{HasRoom}
-use Rattle.framing.specs.meaning.Record.{answer, orElse}
+use Rattle.framing.specs.meaning.Record.{answer}
+use Rattle.framing.specs.method.Stages.{orElse, isSized, hasRoom, frameOf, componentAt, closingStage, frameStage, scanStage, messageStage}
 use Rattle.framing.specs.method.Decimal.{isDecimal}
-use Rattle.framing.specs.method.Stages.{isSized, hasRoom, frameOf, componentAt, closingStage, frameStage, scanStage, messageStage}
 use Rattle.framing.specs.declared.survey.Frame.{Frame}
 use Rattle.framing.specs.declared.survey.Frame.the-variants as frame
 use Rattle.framing.specs.declared.message.Room.{Room}

@@ -1,8 +1,6 @@
 // The message alone, without a book: numbers 3 to 9, in the order of 01's table. The tests that they ask stand below.
 ghost use mathlib.Core.Path.{_≡_};
-ghost use Prim.Native.Nat.{_<_, _≤_, _^_};
-ghost use lib.ListN.{length};
-ghost use lib.Dec.{leb};
+ghost use Prim.Native.Nat.{_<_};
 ghost use Rattle.framing.specs.method.Decimal.{isDecimalFrom, leads, isDecimal};
 ghost use Rattle.framing.specs.method.Stages.{isSized, hasRoom, frameOf, closingStage, frameStage, countStage, messageStage};
 use crate::survey;

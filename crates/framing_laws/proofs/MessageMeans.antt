@@ -8,13 +8,14 @@ use mathlib.Core.Logic.{_↔_, inl, inr}
 use lib.Dec.{eqb, leb}
 use lib.ListN.{length, length-append}
 use borrow.Author.Tests.{eq-eqb, ne-eqb, eqb-true, eqb-false, le-leb, leb-true}
-use Rattle.reading.specs.meaning.Service.{All, GoodService, isWordByte}
+use Rattle.reading.specs.meaning.Service.{All, GoodService}
 use Rattle.reading.specs.meaning.Message.{Component, Segment, Message, ValidTag, ValidSegment, writeComponent, writeSegments, render}
 use Rattle.reading.specs.meaning.Component.{valueAt, sameComponent}
 use Rattle.reading.specs.meaning.WellFormed.{WellFormed, SegmentAt}
 use Rattle.reading.specs.meaning.Tag.{tagNumber, UNH, UNT}
 use Rattle.reading.specs.method.Tag.{tagAt}
 use Rattle.reading.specs.declared.service.Service.{Service}
+use Rattle.reading_laws.proofs.Services.{digit-word}
 use Rattle.reading_laws.proofs.Cursors.{written-at}
 use Rattle.reading_laws.proofs.Values.{part-is-value, same-part}
 use Rattle.reading_laws.proofs.OneReading.{IsWord, raw-is-value, word-written}
@@ -79,10 +80,6 @@ misplaced-exactly n k g v = (to (eqb k 1) (eqb (tagNumber (g .tag)) (tagNumber U
     from (another-unt f e) = by-unt false true (cond (eqb k 1) (not (eqb (tagNumber (g .tag)) (tagNumber UNH))) (eqb (tagNumber (g .tag)) (tagNumber UNH))) (ne-eqb k n f) (eq-eqb (tagNumber (g .tag)) (tagNumber UNT) (ap tagNumber e)) refl
 
 -- ---- numbers 8 and 9
-
-pub digit-word : (b : ℕ) → isDigit b ≡ true → isWordByte b ≡ true
-unfolding isDigit isWordByte
-digit-word b e = rw e
 
 digits-words : (bs : List ℕ) → All (λ b. isDigit b ≡ true) bs → All IsWord bs
 digits-words [] a = tt

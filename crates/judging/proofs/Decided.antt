@@ -14,14 +14,14 @@ use Rattle.reading.specs.meaning.WellFormed.{Segments}
 use Rattle.reading.specs.method.Starts.{startsFrom}
 use Rattle.reading.specs.declared.service.Service.{Service}
 use Rattle.reading.proofs.Starts.{starts-counted, starts-small}
-use Rattle.framing.specs.meaning.Record.{answer, orElse}
+use Rattle.framing.specs.meaning.Record.{answer}
+use Rattle.framing.specs.method.Stages.{orElse, messageStage}
 use Rattle.judging.specs.meaning.Tables.{isRefusal, Tables, tables, roomOf}
-use Rattle.framing.specs.method.Stages.{messageStage}
 use Rattle.framing.specs.declared.message.Room.{Room}
 use Rattle.framing.specs.declared.verdict.Verdict.{Verdict}
 use Rattle.framing.proofs.Messages.{sized-within}
 use Rattle.framing.proofs.Passing.{fault, first-clear, first-passed, room-exactly, ClearMessage, clear-message, Low, low-cond, low-or, low-message}
-use Rattle.book.specs.meaning.Guide.{guideOf}
+use Rattle.guide.specs.meaning.Guide.{guideOf}
 use Rattle.placing.specs.meaning.Plan.{planIn}
 use Rattle.judging.specs.meaning.Answers.{placingVerdict, fieldsVerdict, rowsVerdict}
 use Rattle.placing.specs.method.Fitting.{homeAt}

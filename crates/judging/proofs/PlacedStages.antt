@@ -4,16 +4,16 @@ use native.Mathlib.Omega.{arith}
 use native.Mathlib.Numerals.{add-one}
 use mathlib.Core.Path.{_≡_, refl, sym, ap, _∙_, subst}
 use mathlib.Core.List.{List, [], _∷_}
-use mathlib.Core.Bool.{Bool, true, false, cond}
+use mathlib.Core.Bool.{Bool, cond}
 use lib.Dec.{eqb}
-use lib.ListN.{length, getD, take, drop, drop-of-length-le, List·getD-eq-default}
+use lib.ListN.{length, getD, take, drop, drop-of-length-le}
 use lib.Seq.{drop-cons}
 use borrow.Author.Tests.{eq-eqb, ne-eqb}
-use Rattle.book.specs.meaning.Guide.{Guide}
+use Rattle.guide.specs.meaning.Guide.{Guide}
 use Rattle.reading.specs.declared.service.Service.{Service}
 use Rattle.fields.specs.method.Testing.{FirstInReach}
 use Rattle.fields.specs.declared.passes.FirstFault.{FirstFault}
-use Rattle.fields.specs.declared.passes.FirstFault.the-variants.{At, Clean}
+use Rattle.fields.specs.declared.passes.FirstFault.the-variants.{At}
 use Rattle.rules.specs.method.Scanning.{scannedRow}
 use Rattle.rules.specs.method.Identifiers.{identified}
 use Rattle.rules.specs.declared.finding.Finding.{Finding}

@@ -3,21 +3,21 @@ use Prim.Native.Nat.{ℕ, _+_, _-_, _≤_, _<_}
 use native.Mathlib.Omega.{arith}
 use native.Mathlib.Numerals.{add-one}
 use mathlib.Core.Path.{_≡_, refl, sym, ap, _∙_}
-use mathlib.Core.List.{List, [], _∷_}
+use mathlib.Core.List.{List}
 use mathlib.Core.Bool.{Bool, true, false, false≢true, cond, _&&_}
 use mathlib.Core.Logic.{_↔_}
-use lib.Dec.{eqb, leb}
+use lib.Dec.{leb}
 use lib.ListN.{length, getD, drop, drop-of-length-le}
 use lib.Seq.{drop-cons}
 use borrow.Author.Tests.{eq-eqb, ne-eqb, lt-leb, le-leb}
-use Rattle.book.specs.meaning.Guide.{Guide, guideOf}
-use Rattle.book.specs.meaning.Rule.{run}
+use Rattle.guide.specs.meaning.Guide.{Guide, guideOf}
+use Rattle.book.specs.method.Run.{run}
 use Rattle.book.specs.method.Each.{headerRule, recordsRule, framedRule}
 use Rattle.book.specs.meaning.GoodBook.{GoodBook, Judged}
 use Rattle.book.proofs.Checking.{header-bad, records-bad, frame-bad, runs-good}
 use Rattle.reading.specs.declared.service.Service.{Service}
-use Rattle.framing.specs.meaning.Record.{answer, orElse}
-use Rattle.framing.specs.method.Stages.{messageStage}
+use Rattle.framing.specs.meaning.Record.{answer}
+use Rattle.framing.specs.method.Stages.{orElse, messageStage}
 use Rattle.judging.specs.method.Table.{isGood, bookStage, areKnown, conditionsStage, placingStage, refusal}
 use Rattle.framing.specs.declared.message.Room.{Room}
 use Rattle.framing.specs.declared.verdict.Verdict.{Verdict}

@@ -2,16 +2,15 @@
 ghost use mathlib.Core.Path.{_≡_};
 ghost use Prim.Native.Nat.{_-_, _≤_};
 ghost use lib.ListN.{length, getD, take};
-ghost use Rattle.book.specs.meaning.Guide.{guideOf};
+ghost use Rattle.guide.specs.meaning.Guide.{guideOf};
 ghost use Rattle.reading.specs.meaning.Limits.{mostBytes};
-ghost use Rattle.rules.specs.method.Scanning.{scannedRow};
 ghost use Rattle.rules.specs.method.Identifiers.{identified};
 ghost use Rattle.judging.specs.method.Table.{placeFrom, identifierIn, identifierVerdict, placedVerdict};
 ghost use Rattle.judging.specs.meaning.Answers.{rowsVerdict};
 ghost use Rattle.framing.specs.meaning.Record.{verdict, place as at};
-use book::layout;
 use fields::FirstFault;
 use framing::Verdict;
+use guide::layout;
 use reading::lookup;
 use reading::service::Service;
 use rules::finding::Finding;

@@ -1,10 +1,10 @@
 // The refusals, numbers 1 to 11, in the order of 01's table. They touch no table. Numbers 3 to 9 are asked in the crate framing.
 ghost use mathlib.Core.Path.{_≡_};
-ghost use Rattle.book.specs.meaning.Guide.{guideOf};
+ghost use Rattle.guide.specs.meaning.Guide.{guideOf};
 ghost use Rattle.judging.specs.method.Table.{areKnown, bookStage, conditionsStage, placingStage, refusal};
-use book::layout;
 use framing::Room;
 use framing::Verdict;
+use guide::layout;
 use placing::Placing;
 use reading::service::Service;
 

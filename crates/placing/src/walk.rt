@@ -8,8 +8,8 @@ ghost use Rattle.placing.specs.meaning.Plan.{Plan, planIn};
 ghost use Rattle.placing.specs.declared.walk.Walk.{Walk};
 ghost use Rattle.placing.specs.meaning.Plan.{isTrigger, target};
 ghost use Rattle.placing.specs.method.Walking.{isWanted, isClear, isPassed, canClose, canCloseAll, canMove, raised, level, entered, walked, start, isAlive, openLines, Ready, StandsFor, SegmentLine, WithinEight, Opens, made};
-use book::layout;
-use book::words::KIND_GROUP;
+use guide::layout;
+use guide::words::KIND_GROUP;
 
 // An open line and how often it has come in its parent's instance.
 pub struct Level {

@@ -1,17 +1,18 @@
 -- Law tree, in closed form: a segment's parent is the last earlier trigger of the group around its line, a
 -- trigger's that of the group around its own group.
-use Prim.Native.Nat.{ℕ, zero, suc, _+_, _-_, _≤_, _<_, pred}
+use Prim.Native.Nat.{ℕ, zero, suc, _+_, _-_, _≤_, _<_}
 use native.Mathlib.Omega.{arith}
-use mathlib.Core.Path.{_≡_, refl, sym, ap, ap₂, _∙_, subst}
+use mathlib.Core.Path.{_≡_, refl, sym, ap, _∙_, subst}
 use mathlib.Core.List.{List, [], _∷_, _++_, append-assoc, append-nil}
 use mathlib.Core.Bool.{Bool, true, false, cond}
 use lib.Dec.{eqb, ltb}
 use lib.ListN.{length, length-append}
 use borrow.Author.Tests.{eq-eqb, ne-eqb, lt-ltb, le-ltb}
-use Rattle.placing.specs.meaning.Plan.{Plan, deep, opening, Of, isTrigger, target}
+use Rattle.placing.specs.meaning.Plan.{Plan, deep, opening, Of}
 use Rattle.placing_laws.proofs.Structured.{Structured}
 use Rattle.placing.specs.meaning.Placement.{Contents, nothing, segment, instance, homes, size, parents, Runs, Placed}
-use Rattle.placing.specs.meaning.Tree.{climb, owner, lastOf, heldBy, closed, closedParents}
+use Rattle.placing.specs.meaning.Tree.{climb, owner}
+use Rattle.placing.specs.method.ClosedTree.{lastOf, heldBy, closed, closedParents}
 use Rattle.placing.specs.method.Tree.{notedParents}
 use Rattle.placing_laws.proofs.Trees.{homes-append, homes-length, Same, it, other, same}
 use Rattle.placing_laws.proofs.Walks.{homeFor, homeFor-target, opening-le}

@@ -10,10 +10,10 @@ use lib.Dec.{eqb}
 use lib.ListN.{length, getD, take, length-take}
 use lib.Seq.{ext-getD, getD-take}
 use borrow.Author.Tests.{eq-eqb, eqb-true, le-leb}
-use Rattle.book.specs.meaning.Guide.{Guide, guideOf}
+use Rattle.guide.specs.meaning.Guide.{Guide, guideOf}
 use Rattle.book.specs.meaning.Rule.{Holds}
 use Rattle.book.specs.meaning.GoodBook.{GoodBook, codeRule, codeByteRule}
-use Rattle.book.specs.meaning.View.{numbersFrom, codeValue}
+use Rattle.guide.specs.meaning.View.{numbersFrom, codeValue}
 use Rattle.book_laws.proofs.Clauses.{code-rule}
 use Rattle.reading.specs.meaning.Service.{All, GoodService, isWordByte}
 use Rattle.reading.specs.meaning.Message.{Component, writeComponent}

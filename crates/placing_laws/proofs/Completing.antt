@@ -1,22 +1,20 @@
 -- Laws begins and placement: the walk is alive after k homes exactly when some continuation is allowed, and it ends at the last line
 -- exactly when the homes are allowed.
-use Prim.Native.Nat.{ℕ, zero, suc, _+_, _-_, _≤_, _<_, pred}
+use Prim.Native.Nat.{ℕ, zero, suc, _+_, _-_, _≤_, _<_}
 use native.Mathlib.Omega.{arith}
 use mathlib.Core.Path.{_≡_, refl, sym, ap, _∙_, subst}
 use mathlib.Core.List.{List, [], _∷_, _++_, append-assoc, append-nil}
-use mathlib.Core.Bool.{Bool, true, false, true≢false, false≢true, cond, not, _&&_}
+use mathlib.Core.Bool.{Bool, true, false, true≢false, false≢true, cond}
 use mathlib.Core.Logic.{_↔_}
-use lib.Dec.{eqb, ltb, leb}
-use lib.ListN.{length, getD, take, drop, length-append}
-use borrow.Author.Tests.{eq-eqb, ne-eqb, eqb-true, eqb-false, ltb-true, ltb-false, lt-ltb, le-ltb, leb-true, leb-false, le-leb}
+use lib.Dec.{eqb, ltb}
+use borrow.Author.Tests.{eq-eqb, eqb-true, eqb-false, ltb-true, ltb-false}
 use Rattle.placing.specs.declared.walk.Level.{Level}
-use Rattle.placing.specs.meaning.Plan.{Plan, station, deep, opening, Of, isTrigger, target}
-use Rattle.placing_laws.proofs.Structured.{Frame, Trigger, Structured}
-use Rattle.placing.specs.meaning.Placement.{Contents, nothing, segment, instance, homes, count, UpTo, Counted, Runs, Placed, Allowed, Begins}
-use Rattle.placing.specs.method.Walking.{level, start, walked, advanced, isAlive, isAtEnd}
-use Rattle.reading.proofs.Booleans.{refuted}
-use Rattle.placing_laws.proofs.Trees.{homes-append, one-here, one-other, Same, it, other, same, Next, Full, Good, Open, good-open, valid-good, good-valid, good-runs, runs-of}
-use Rattle.placing_laws.proofs.Walks.{opening-le, lastLine, lastCount, below, levels, Parent, Last, last-of, deep-of, depth-of, parent-of, Stands, walk-sound, walk-good, walked-on, walked-nil, dead}
+use Rattle.placing.specs.meaning.Plan.{Plan, deep, opening, Of}
+use Rattle.placing_laws.proofs.Structured.{Structured}
+use Rattle.placing.specs.meaning.Placement.{Contents, nothing, segment, instance, homes, count, Placed, Allowed, Begins}
+use Rattle.placing.specs.method.Walking.{start, walked, advanced, isAlive, isAtEnd}
+use Rattle.placing_laws.proofs.Trees.{homes-append, one-here, Same, it, other, same, Next, Full, Good, Open, good-open, valid-good, good-valid, good-runs}
+use Rattle.placing_laws.proofs.Walks.{opening-le, lastLine, levels, Parent, last-of, deep-of, depth-of, parent-of, walk-sound, walk-good, walked-nil, dead}
 
 module _ (b : Plan) (s : Structured b) where
   -- an explicit completion of what an instance of p holds

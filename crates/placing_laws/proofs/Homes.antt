@@ -10,10 +10,10 @@ use mathlib.Core.Logic.{_⊎_, inl, inr, dite}
 use lib.Dec.{eqb}
 use lib.ListN.{getD}
 use borrow.Author.Tests.{eq-eqb, eqb-true, eqb-false}
-use Rattle.book.specs.meaning.Guide.{guideOf}
+use Rattle.guide.specs.meaning.Guide.{guideOf}
 use Rattle.book.specs.meaning.Rule.{Holds}
 use Rattle.book.specs.meaning.GoodBook.{GoodBook, tagRule, tagByteRule, sameTagRule, samePlaceRule, toldApartRule, pairRule}
-use Rattle.book.specs.meaning.View.{numbersFrom, codeValue, lineOf}
+use Rattle.guide.specs.meaning.View.{numbersFrom, codeValue, lineOf}
 use Rattle.book_laws.proofs.Clauses.{line-kind, line-tag, line-codes, one-home}
 use Rattle.book_laws.proofs.OneHome.{no-common-code}
 use Rattle.book_laws.proofs.ViewedLines.{tag-number, with-selector}

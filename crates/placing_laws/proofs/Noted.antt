@@ -1,12 +1,12 @@
 -- Law tree: the parents that are written home by home are those of the placement tree.
-use Prim.Native.Nat.{ℕ, suc, _+_, _≤_, _<_}
+use Prim.Native.Nat.{ℕ, suc, _+_, _≤_}
 use native.Mathlib.Omega.{arith}
 use mathlib.Core.Path.{_≡_, refl, sym, ap, _∙_}
 use mathlib.Core.List.{List, [], _∷_}
-use mathlib.Core.Bool.{Bool, true, false, cond}
+use mathlib.Core.Bool.{Bool, true, false}
 use lib.ListN.{length, getD, set, length-set}
 use lib.Seq.{getD-set-same, getD-set-other}
-use Rattle.placing.specs.meaning.Plan.{Plan, deep, Of, isTrigger, target}
+use Rattle.placing.specs.meaning.Plan.{Plan, deep, Of}
 use Rattle.placing.specs.meaning.Placement.{Contents, nothing, segment, instance, homes, size, parents, parentsOf, Runs, Placed}
 use Rattle.placing.specs.method.Tree.{rootOnly, openedBy, noted, notedParents}
 use Rattle.placing_laws.proofs.Structured.{Structured}

@@ -11,11 +11,10 @@ use mathlib.Core.Logic.{dite}
 use mathlib.Core.Bool.{true, false, true≢false, cond}
 use lib.Dec.{eqb}
 use borrow.Author.Tests.{eq-eqb, eqb-true}
-use Rattle.book.specs.meaning.Guide.{guideOf}
+use Rattle.guide.specs.meaning.Guide.{guideOf}
 use Rattle.book.specs.meaning.GoodBook.{GoodBook, carrierRule, carrierGroupRule, aroundRule, deeperRule}
-use Rattle.book.specs.meaning.Structure.{ParentOf}
 use Rattle.book_laws.proofs.Clauses.{carrier-rule, carrier-group}
-use Rattle.book_laws.proofs.Parents.{parent-exists}
+use Rattle.book_laws.proofs.Parents.{ParentOf, parent-exists}
 use Rattle.placing.specs.meaning.Plan.{Plan, planIn, deep, opening, Of}
 use Rattle.placing.specs.meaning.Placement.{Contents, nothing, segment, instance, homes, count, Counted, Runs, Allowed, occurrences}
 use Rattle.placing_laws.proofs.Structured.{Structured, structured}

@@ -1,13 +1,13 @@
 -- Law one-placement: a sequence of homes has one placement tree at most.
-use Prim.Native.Nat.{ℕ, zero, suc, _+_, _-_, _≤_, _<_, pred}
+use Prim.Native.Nat.{ℕ, zero, suc, _+_, _-_}
 use native.Mathlib.Omega.{arith}
-use mathlib.Core.Path.{_≡_, refl, sym, ap, _∙_, subst}
-use mathlib.Core.List.{List, [], _∷_, _++_, append-assoc, append-nil}
-use mathlib.Core.Bool.{Bool, true, false, cond}
-use lib.ListN.{length, getD, take, drop, length-append}
-use Rattle.placing.specs.meaning.Plan.{Plan, deep, opening, Of, isTrigger, target}
+use mathlib.Core.Path.{_≡_, refl, sym, ap, _∙_}
+use mathlib.Core.List.{List, [], _∷_, _++_}
+use mathlib.Core.Bool.{Bool, true, false}
+use lib.ListN.{length, length-append}
+use Rattle.placing.specs.meaning.Plan.{Plan, deep, Of, isTrigger, target}
 use Rattle.placing_laws.proofs.Structured.{Structured}
-use Rattle.placing.specs.meaning.Placement.{Contents, nothing, segment, instance, homes, size, parents, Runs, Placed}
+use Rattle.placing.specs.meaning.Placement.{Contents, nothing, segment, instance, homes, Runs, Placed}
 use Rattle.placing_laws.proofs.Walks.{added, homeFor, depth-of, homeFor-trigger, homeFor-target}
 
 -- the open instances around a place in a tree, outermost first

@@ -1,17 +1,17 @@
 -- What the test pass finds, in terms of placement trees: numbers 10 and 11, and when the homes are allowed.
-use Prim.Native.Nat.{ℕ, zero, suc, _+_, _-_, _≤_, _<_}
+use Prim.Native.Nat.{ℕ, suc, _+_, _-_, _≤_, _<_}
 use native.Mathlib.Omega.{arith}
 use native.Mathlib.Decide.{decLt}
 use mathlib.Core.Path.{_≡_, refl, sym, ap, _∙_, subst}
 use mathlib.Core.List.{List, [], _∷_, _++_, append-assoc, append-nil}
-use mathlib.Core.Bool.{Bool, true, false, true≢false, false≢true, cond, not, _&&_}
+use mathlib.Core.Bool.{Bool, true, false, false≢true, cond, _&&_}
 use mathlib.Core.Logic.{_↔_, dite}
 use lib.Dec.{eqb}
 use lib.ListN.{length, getD, take, drop, take-append-drop, length-append, List·getD-append}
 use lib.Seq.{take-append-le, take-all, getD-append-seam}
 use borrow.Author.Tests.{eq-eqb, ne-eqb, eqb-true, eqb-false}
 use Rattle.placing.specs.meaning.Plan.{Plan, isTrigger, target}
-use Rattle.placing.specs.meaning.Placement.{Placed, Allowed}
+use Rattle.placing.specs.meaning.Placement.{Allowed}
 use Rattle.placing.specs.meaning.Placement as placement
 use Rattle.placing.specs.method.Walking.{start, isPlaceable, admits, stacked, entered, advanced, walked, isAlive, isAtEnd}
 use Rattle.placing.specs.meaning.Answers.{HaveHomes, FirstWithout, Means}

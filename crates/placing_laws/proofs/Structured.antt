@@ -1,14 +1,13 @@
 -- What a good book's lines keep, in the words that the laws of placing use.
-use Prim.Native.Nat.{ℕ, suc, _+_, _≤_}
+use Prim.Native.Nat.{ℕ, suc, _≤_}
 use native.Mathlib.Omega.{arith}
 use native.Mathlib.Numerals.{add-one}
 use mathlib.Core.Path.{_≡_, sym, ap, _∙_, subst}
 use mathlib.Core.List.{List}
 use mathlib.Core.Logic.{_⊎_, inl, inr}
 use mathlib.Core.Bool.{true, false, true≢false}
-use lib.Dec.{eqb}
 use borrow.Author.Tests.{eq-eqb, ne-eqb, eqb-true}
-use Rattle.book.specs.meaning.Guide.{guideOf}
+use Rattle.guide.specs.meaning.Guide.{guideOf}
 use Rattle.book.specs.meaning.Rule.{Holds}
 use Rattle.book.specs.meaning.GoodBook.{GoodBook, frameRule, triggerRule, fallRule}
 use Rattle.book_laws.proofs.Clauses.{counts, line-kind, line-depth, line-maximum, first-frame, last-frame, group-trigger, line-falls}

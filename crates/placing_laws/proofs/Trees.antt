@@ -1,15 +1,14 @@
 -- Placement trees as the walk meets them: each child may come where it comes.
-use Prim.Native.Nat.{ℕ, zero, suc, _+_, _-_, _≤_, _<_}
+use Prim.Native.Nat.{ℕ, suc, _+_, _-_, _≤_, _<_}
 use native.Mathlib.Omega.{arith}
-use mathlib.Core.Path.{_≡_, refl, sym, ap, _∙_, subst}
-use mathlib.Core.List.{List, [], _∷_, _++_}
-use mathlib.Core.Bool.{Bool, true, false, true≢false, false≢true, cond, not, _&&_}
-use lib.Dec.{eqb, ltb}
-use lib.ListN.{length, getD, take, drop}
-use borrow.Author.Tests.{eq-eqb, ne-eqb, eqb-true, eqb-false, ltb-true, ltb-false, lt-ltb, le-ltb}
-use Rattle.placing.specs.meaning.Plan.{Plan, station, deep, opening, Of}
-use Rattle.placing_laws.proofs.Structured.{Frame, Trigger, Structured}
-use Rattle.placing.specs.meaning.Placement.{Contents, nothing, segment, instance, homes, size, count, UpTo, Counted, Runs, Placed, Allowed, Begins}
+use mathlib.Core.Path.{_≡_, refl, ap, _∙_, subst}
+use mathlib.Core.List.{List, _∷_, _++_}
+use mathlib.Core.Bool.{Bool, true, false, cond}
+use lib.Dec.{eqb}
+use lib.ListN.{length}
+use borrow.Author.Tests.{eq-eqb, ne-eqb, eqb-true, eqb-false}
+use Rattle.placing.specs.meaning.Plan.{Plan, station, Of}
+use Rattle.placing.specs.meaning.Placement.{Contents, nothing, segment, instance, homes, size, count, UpTo, Counted, Runs}
 
 -- ---- the homes of a tree
 

@@ -6,15 +6,15 @@ use mathlib.Core.List.{List, [], _∷_, _++_, append-assoc}
 use mathlib.Core.Bool.{Bool, true, false, true≢false, false≢true, cond, not, _&&_, and-false}
 use lib.Dec.{eqb, ltb, leb}
 use lib.ListN.{length, getD, take, drop, length-append}
-use borrow.Author.Tests.{eq-eqb, ne-eqb, eqb-true, eqb-false, ltb-true, ltb-false, lt-ltb, le-ltb, leb-true, le-leb}
+use borrow.Author.Tests.{eqb-true, eqb-false, ltb-true, lt-ltb, le-ltb, leb-true, le-leb}
 use Rattle.placing.specs.declared.walk.Level.{Level}
-use Rattle.placing.specs.meaning.Plan.{Plan, station, deep, opening, Of, isTrigger, target}
-use Rattle.placing_laws.proofs.Structured.{Frame, Trigger, Structured}
-use Rattle.placing.specs.meaning.Placement.{Contents, nothing, segment, instance, homes, count, UpTo, Counted, Runs, Placed, Allowed, Begins}
-use Rattle.placing.specs.method.Walking.{level, start, isPlaceable, isWanted, isClear, isPassed, canCloseAll, canMove, raised, admits, entered, stacked, advanced, walked, isAlive, SegmentLine}
-use Rattle.placing.proofs.LeavingOut.{Met, clear-none, clear-yes, Skipped, passes-all, passes-yes}
+use Rattle.placing.specs.meaning.Plan.{Plan, deep, opening, Of, isTrigger, target}
+use Rattle.placing_laws.proofs.Structured.{Trigger, Structured}
+use Rattle.placing.specs.meaning.Placement.{Contents, nothing, segment, instance, homes, count, UpTo}
+use Rattle.placing.specs.method.Walking.{level, isPlaceable, isClear, isPassed, canCloseAll, canMove, raised, admits, entered, stacked, advanced, walked, isAlive, SegmentLine}
+use Rattle.placing.proofs.LeavingOut.{clear-none, clear-yes, Skipped, passes-all, passes-yes}
 use Rattle.reading.proofs.Booleans.{both, left, right, denied, refuted}
-use Rattle.placing_laws.proofs.Trees.{one-here, one-other, Same, it, other, same, Next, Full, Good, Open, good-open, valid-good, good-valid, good-runs, runs-of}
+use Rattle.placing_laws.proofs.Trees.{one-here, Same, it, other, same, Next, Full, Good, Open, good-open}
 
 -- the open line and its count, and the levels below it, of what an instance of p holds
 abbrev pub lastLine : ℕ → Contents → ℕ

@@ -8,8 +8,8 @@ use lib.Dec.{leb, eqb}
 use lib.ListN.{length}
 use borrow.Author.Tests.{leb-true, leb-false, eqb-true, eqb-false}
 use Rattle.reading.specs.meaning.Component.{span}
-use Rattle.reading.specs.meaning.WellFormed.{Outcome, Segments, BadAt}
-use Rattle.reading.specs.method.Machine.{segmentEnd, foundBy, nextSegment, badFrom, scanned}
+use Rattle.reading.specs.meaning.WellFormed.{Segments}
+use Rattle.reading.specs.method.Machine.{segmentEnd, foundBy, nextSegment, scanned}
 use Rattle.reading.specs.method.Starts.{startsThen, startsFrom}
 use Rattle.reading.specs.declared.service.Service.{Service}
 use Rattle.reading.specs.declared.span.Span.{Span}

@@ -1,4 +1,4 @@
-// One byte: read wherever it may stand, and what it is. The only place that tests a byte's value.
+// One byte: read wherever it may stand, and what it is in a message.
 ghost use mathlib.Core.Path.{_≡_};
 ghost use Prim.Native.Nat.{_<_};
 ghost use lib.ListN.{getD};

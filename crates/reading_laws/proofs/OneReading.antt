@@ -20,7 +20,7 @@ abbrev pub IsWord : ℕ → Type 0
 IsWord b = isWordByte b ≡ true
 
 module _ (s : Service) where
-  not-release : (b : ℕ) → mustRelease s b ≡ false → eqb b (s .release) ≡ false
+  pub not-release : (b : ℕ) → mustRelease s b ≡ false → eqb b (s .release) ≡ false
   unfolding mustRelease
   not-release b h = go (eqb b (s .release)) h
     where

@@ -6,6 +6,7 @@ use mathlib.Core.Bool.{Bool, true, false, or-true, true≢false}
 use lib.Dec.{eqb}
 use borrow.Author.Tests.{eq-eqb, ne-eqb, eqb-true}
 use Rattle.reading.specs.meaning.Service.{GoodService, standard, isData, isWordByte, mustRelease}
+use Rattle.reading.specs.meaning.Digit.{isDigit}
 use Rattle.reading.specs.method.Machine.{pick, kindOf}
 use Rattle.reading.specs.declared.service.Service.{Service}
 use Rattle.reading.specs.declared.bytes.Kind.{Kind}
@@ -32,6 +33,11 @@ see s b = go (eqb b (s .release)) (eqb b (s .component)) (eqb b (s .element)) (e
     go false false false true d hr hc he ht hd = terminator (eqb-true b (s .terminator) ht) (simp (hr, hc, he, ht))
     go false false false false true hr hc he ht hd = plain hd (simp (hr, hc, he, ht))
     go false false false false false hr hc he ht hd = other hd (simp (hr, hc, he, ht))
+
+-- a digit is a word byte
+pub digit-word : (b : ℕ) → isDigit b ≡ true → isWordByte b ≡ true
+unfolding isDigit isWordByte
+digit-word b e = rw e
 
 -- what must be released under the standard set is none of the word bytes
 standard-words : (b : ℕ) → isWordByte b ≡ true → mustRelease standard b ≡ false

@@ -1,4 +1,4 @@
--- The answers of the message stage and of the reading as single numbers, for tests in C and Rust.
+-- The answers of the message stage and of the reading as single numbers, for tests in Rust.
 use Prim.Native.Nat.{ℕ, _+_, _*_, _^_}
 use Rattle.framing.specs.declared.message.Room.{Room}
 use Rattle.framing.specs.declared.verdict.Verdict.{Verdict}

@@ -1,7 +1,7 @@
-// For the tests alone: the message stage and the cursor as functions on numbers and slices, so that Rust and C can call them.
+// For the tests alone: the message stage and the cursor as functions on numbers and slices, so that Rust can call them.
 // The C door that is shipped, crate tracksaddle, does not have them.
 ghost use mathlib.Core.Path.{_≡_};
-ghost use Prim.Native.Nat.{_-_, _^_};
+ghost use Prim.Native.Nat.{_-_};
 ghost use Rattle.reading_probe.specs.Probe.{packed, ample, nextOf};
 ghost use Rattle.reading.specs.method.Machine.{nextSegment};
 ghost use Rattle.reading.specs.meaning.Service.{standard};

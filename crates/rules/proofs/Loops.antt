@@ -10,13 +10,14 @@ use lib.Dec.{eqb, ltb}
 use lib.ListN.{length, getD, drop, List·getD-eq-default}
 use lib.Seq.{drop-cons, drop-length}
 use borrow.Author.Tests.{eq-eqb, ne-eqb, lt-ltb, le-ltb}
-use Rattle.book.specs.meaning.Guide.{Guide}
-use Rattle.book.specs.meaning.View.{inUse}
+use Rattle.guide.specs.meaning.Guide.{Guide}
+use Rattle.guide.specs.meaning.View.{inUse}
 use native.Mathlib.Nat.{mul-le-mul}
 use Rattle.placing.specs.meaning.Plan.{Plan, deep, opening}
 use Rattle.placing.specs.meaning.Tree.{climb}
 use Rattle.reading.specs.meaning.Component.{sameComponent}
-use Rattle.rules.specs.meaning.Conditions.{said, isUnknown, firstUnknown}
+use Rattle.rules.specs.meaning.Conditions.{said, isUnknown}
+use Rattle.rules.specs.method.FirstFound.{firstUnknown}
 use Rattle.rules.specs.meaning.Rows.{conditionNumber, conditionsOf}
 use Rattle.rules.specs.method.Scanning.{guessed, joined, reading, readRow, rowNumbered, noted}
 use Rattle.rules.specs.method.Laps.{lapFrom}

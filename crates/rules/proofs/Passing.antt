@@ -9,7 +9,7 @@ use mathlib.Core.Bool.{Bool, true, false, cond, true≢false, false≢true}
 use lib.Dec.{eqb, leb}
 use lib.ListN.{length, drop, length-drop}
 use borrow.Author.Tests.{le-leb, lt-leb, lt-ltb, le-ltb}
-use Rattle.book.specs.meaning.Guide.{Guide}
+use Rattle.guide.specs.meaning.Guide.{Guide}
 use Rattle.rules.specs.method.Scanning.{Instance, instanceOf, noted, begun, instancesFrom, behindFirst, watchOf, isIdle, reportIn, isKept, firstFound, scannedIn, scannedLine, scannedFrom, scannedRow}
 use Rattle.rules.specs.method.Laps.{lapFrom, firstInstance}
 use Rattle.rules.specs.declared.instances.Lap.{Lap}

@@ -4,11 +4,11 @@ use mathlib.Core.Path.{_≡_, refl, sym, ap, _∙_}
 use mathlib.Core.List.{List}
 use mathlib.Core.Bool.{Bool, true, false, cond, _&&_, _||_, true≢false, false≢true}
 use borrow.Author.Tests.{eq-eqb, ne-eqb}
-use Rattle.book.specs.meaning.Guide.{Guide}
-use Rattle.book.specs.meaning.View.{Row, rowNumber, rowOf}
+use Rattle.guide.specs.meaning.Guide.{Guide}
+use Rattle.guide.specs.meaning.View.{Row, rowNumber, rowOf}
 use Rattle.placing.specs.meaning.Plan.{planOf, opening}
 use Rattle.placing.specs.meaning.Tree.{owner}
-use Rattle.rules.specs.meaning.Conditions.{firstUnknown}
+use Rattle.rules.specs.method.FirstFound.{firstUnknown}
 use Rattle.rules.specs.meaning.Rows.{conditionsOf, isBroken}
 use Rattle.rules.specs.meaning.Instances.{shownBy}
 use Rattle.rules.specs.method.Scanning.{readRow, rowNumbered, weighed, breachOf, breachIn, watchOf}

@@ -2,17 +2,17 @@
 // can make of it.
 ghost use mathlib.Core.Path.{_≡_};
 ghost use mathlib.Core.Bool.{cond, not};
-ghost use Rattle.book.specs.meaning.Guide.{guideOf};
-ghost use Rattle.rules.specs.meaning.Conditions.{firstUnknown};
+ghost use Rattle.guide.specs.meaning.Guide.{guideOf};
+ghost use Rattle.rules.specs.method.FirstFound.{firstUnknown};
 ghost use Rattle.rules.specs.meaning.Rows.{isBroken, conditionsOf};
 ghost use Rattle.rules.specs.method.Scanning.{readRow, breachOf, isNever, rowNumbered};
 use crate::conditions;
-use book::layout;
-use book::words::JOINT_ANY;
-use book::words::MODE_MAY_IF;
-use book::words::MODE_MUST;
-use book::words::MODE_MUST_IF;
-use book::words::MODE_NEVER;
+use guide::layout;
+use guide::words::JOINT_ANY;
+use guide::words::MODE_MAY_IF;
+use guide::words::MODE_MUST;
+use guide::words::MODE_MUST_IF;
+use guide::words::MODE_NEVER;
 
 // In which fillings a row is broken; where in some only, with the lowest unknown condition of the row.
 pub enum Breach {

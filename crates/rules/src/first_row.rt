@@ -3,12 +3,12 @@
 ghost use mathlib.Core.Path.{_≡_};
 ghost use Prim.Native.Nat.{_<_, _^_};
 ghost use lib.ListN.{length, take};
-ghost use Rattle.book.specs.meaning.Guide.{guideOf};
+ghost use Rattle.guide.specs.meaning.Guide.{guideOf};
 ghost use Rattle.rules.specs.method.Scanning.{isKept, scannedFrom, scannedRow};
 use crate::finding::Finding;
 use crate::instances;
 use crate::watch;
-use book::layout;
+use guide::layout;
 
 // Is nothing found here?
 fn is_kept(finding: Finding) -> bool

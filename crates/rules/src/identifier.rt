@@ -1,10 +1,10 @@
 // The Prüfidentifikator that a message names. 01, number 13.
 ghost use mathlib.Core.Path.{_≡_};
-ghost use Rattle.book.specs.meaning.Guide.{guideOf};
+ghost use Rattle.guide.specs.meaning.Guide.{guideOf};
 ghost use Rattle.reading.specs.meaning.Component.{sameComponent};
 ghost use Rattle.rules.specs.meaning.Identifiers.{identifierValue};
 ghost use Rattle.rules.specs.method.Identifiers.{identified};
-use book::layout;
+use guide::layout;
 
 // Its number in the book, counted from 0; or the book does not have it.
 pub enum Identified {

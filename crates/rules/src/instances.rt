@@ -7,8 +7,8 @@ ghost use Rattle.placing.specs.meaning.Tree.{owner};
 ghost use Rattle.rules.specs.meaning.Instances.{shownBy};
 ghost use Rattle.rules.specs.method.Scanning.{noted, begun};
 ghost use Rattle.rules.specs.method.Laps.{lapFrom};
-use book::layout;
-use book::words::KIND_GROUP;
+use guide::layout;
+use guide::words::KIND_GROUP;
 
 // In one instance: the first segment that shows the line, 0 if there is none, and the trigger of the next instance, one behind
 // the last segment if there is none.

@@ -8,7 +8,3 @@ pub mod first_row;
 pub mod identifier;
 mod instances;
 mod watch;
-
-pub use finding::Finding;
-pub use identifier::Identified;
-pub use identifier::find_identifier;

@@ -3,8 +3,8 @@ ghost use mathlib.Core.Path.{_≡_};
 ghost use Prim.Native.Nat.{_<_, _≤_, _^_};
 ghost use mathlib.Core.Bool.{cond};
 ghost use lib.Dec.{eqb};
-ghost use Rattle.book.specs.meaning.Guide.{guideOf};
-ghost use Rattle.book.specs.meaning.View.{rowNumber};
+ghost use Rattle.guide.specs.meaning.Guide.{guideOf};
+ghost use Rattle.guide.specs.meaning.View.{rowNumber};
 ghost use Rattle.rules.specs.meaning.Instances.{placeIn};
 ghost use Rattle.rules.specs.method.Scanning.{breachIn, watchOf, isIdle, reportIn, reportOf, instanceOf};
 ghost use Rattle.rules.specs.method.Laps.{firstInstance};
@@ -12,7 +12,7 @@ use crate::breach;
 use crate::breach::Breach;
 use crate::finding::Finding;
 use crate::instances;
-use book::layout;
+use guide::layout;
 
 // The home of the triggers of the line's parent (0 for the message), the home of the segments that show the line, and what its row
 // comes to where the line is present and where it is not.

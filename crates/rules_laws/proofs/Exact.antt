@@ -11,11 +11,12 @@ use mathlib.Core.List.{List, [], _∷_, map}
 use mathlib.Core.Bool.{Bool, true, false, not, cond, _&&_, _||_, true≢false, false≢true}
 use lib.Dec.{eqb}
 use borrow.Author.Tests.{eq-eqb, ne-eqb}
-use Rattle.book.specs.meaning.Guide.{guideOf}
+use Rattle.guide.specs.meaning.Guide.{guideOf}
 use Rattle.book.specs.meaning.GoodBook.{GoodBook}
-use Rattle.book.specs.meaning.View.{Row, rowOf, inUse}
+use Rattle.guide.specs.meaning.View.{Row, rowOf, inUse}
 use Rattle.book_laws.proofs.ViewedRows.{NumbersRise, plain-row, row-expression}
-use Rattle.rules.specs.meaning.Conditions.{Assignment, isUnknown, told, Filling, some, every, firstUnknown}
+use Rattle.rules.specs.meaning.Conditions.{Assignment, isUnknown, told, Filling}
+use Rattle.rules.specs.method.FirstFound.{some, every, firstUnknown}
 use Rattle.rules.specs.meaning.Rows.{conditionNumber, isNegated, literal, allHold, anyHolds, expression, conditionsOf, isBroken}
 use Rattle.rules.specs.method.Scanning.{guessed, joined, reading, readRow, weighed, breachOf}
 use Rattle.rules.specs.declared.breach.Breach.the-variants.{Never, Always, Sometimes}

@@ -6,8 +6,8 @@ use mathlib.Core.Path.{_≡_, refl, sym, ap, _∙_, subst}
 use mathlib.Core.Logic.{_↔_}
 use mathlib.Core.List.{List, [], _∷_}
 use mathlib.Core.Bool.{Bool, true, false, not, _&&_, true≢false}
-use Rattle.book.specs.meaning.Guide.{Guide, guideOf}
-use Rattle.book.specs.meaning.View.{Row}
+use Rattle.guide.specs.meaning.Guide.{Guide, guideOf}
+use Rattle.guide.specs.meaning.View.{Row}
 use Rattle.book_laws.proofs.Bytes.{k}
 use Rattle.book_laws.proofs.Inhabited.{k-is-good}
 use Rattle.placing.specs.meaning.Plan.{planIn, target}
@@ -20,10 +20,11 @@ use Rattle.placing_laws.proofs.Noted.{tree}
 use Rattle.placing_laws.proofs.Completing.{end-allowed}
 use Rattle.placing_laws.proofs.Examples.{two-positions-allowed}
 use Rattle.reading.specs.meaning.Component.{sameComponent}
-use Rattle.rules.specs.meaning.Conditions.{Assignment, Fills, some, firstUnknown}
+use Rattle.rules.specs.meaning.Conditions.{Assignment, Fills}
+use Rattle.rules.specs.method.FirstFound.{some, firstUnknown, foundAmong, firstRow}
 use Rattle.rules.specs.meaning.Rows.{literal, allHold, anyHolds}
 use Rattle.rules.specs.meaning.Instances.{segmentsOf, firstIn}
-use Rattle.rules.specs.meaning.FirstRow.{entriesIn, entriesFrom, entriesOf, foundAmong, firstRow}
+use Rattle.rules.specs.meaning.Entries.{entriesIn, entriesFrom, entriesOf}
 use Rattle.rules.specs.meaning.OnTree.{RulesHold}
 use Rattle.rules.specs.method.Scanning.{reading, breachOf, instancesFrom, scannedIn, scannedFrom, scannedRow}
 use Rattle.rules.specs.method.Identifiers.{identifiedFrom, identified}

@@ -6,9 +6,10 @@ use mathlib.Core.Path.{_≡_, refl, sym, ap, _∙_, subst}
 use mathlib.Core.Logic.{_↔_}
 use mathlib.Core.List.{List, [], _∷_, _++_}
 use mathlib.Core.Bool.{true, false, cond, true≢false}
-use Rattle.book.specs.meaning.Guide.{Guide}
-use Rattle.rules.specs.meaning.Conditions.{Assignment, told, Filling, some, firstUnknown}
-use Rattle.rules.specs.meaning.FirstRow.{Entry, entriesOf, reported, foundAmong, firstRow}
+use Rattle.guide.specs.meaning.Guide.{Guide}
+use Rattle.rules.specs.meaning.Conditions.{Assignment, told, Filling}
+use Rattle.rules.specs.method.FirstFound.{some, firstUnknown, reported, foundAmong, firstRow}
+use Rattle.rules.specs.meaning.Entries.{Entry, entriesOf}
 use Rattle.rules.specs.declared.finding.Finding.{Finding}
 use Rattle.rules.specs.declared.finding.Finding.the-variants.{Kept, Broken, Unsettled}
 use Rattle.rules_laws.proofs.Keys.{All, Looks, looks}

@@ -7,7 +7,7 @@ use mathlib.Core.Logic.{dite}
 use mathlib.Core.List.{List}
 use mathlib.Core.Bool.{Bool, true, false, cond, true≢false}
 use lib.ListN.{getD}
-use Rattle.book.specs.meaning.Guide.{Guide, guideOf}
+use Rattle.guide.specs.meaning.Guide.{Guide, guideOf}
 use Rattle.book.specs.meaning.GoodBook.{GoodBook, identifierNumber, identifierRises}
 use Rattle.book_laws.proofs.Clauses.{identifier-rule}
 use Rattle.reading.specs.meaning.Component.{sameComponent}

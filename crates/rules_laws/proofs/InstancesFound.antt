@@ -10,7 +10,8 @@ use lib.Dec.{eqb}
 use lib.ListN.{length, length-append}
 use borrow.Author.Tests.{eq-eqb, ne-eqb, eqb-true, eqb-false}
 use Rattle.placing.specs.meaning.Plan.{Plan, opening, isTrigger, target}
-use Rattle.placing.specs.meaning.Tree.{owner, lastOf, heldBy, closed, closedParents}
+use Rattle.placing.specs.meaning.Tree.{owner}
+use Rattle.placing.specs.method.ClosedTree.{lastOf, heldBy, closed, closedParents}
 use Rattle.placing_laws.proofs.Structured.{Structured}
 use Rattle.rules.specs.meaning.Instances.{segmentsOf, instancesOf, shownBy, firstIn, firstOf}
 use Rattle.rules.specs.method.Scanning.{Instance, instanceOf, noted, begun, instancesFrom, behindFirst, instancesIn}

@@ -10,14 +10,14 @@ use mathlib.Core.Bool.{Bool, true, false, cond, _&&_}
 use lib.Dec.{eqb}
 use lib.ListN.{getD}
 use borrow.Author.Tests.{eq-eqb, ne-eqb, eqb-true}
-use Rattle.book.specs.meaning.Guide.{Guide, guideOf}
+use Rattle.guide.specs.meaning.Guide.{Guide, guideOf}
 use Rattle.book.specs.meaning.GoodBook.{GoodBook}
-use Rattle.book.specs.meaning.View.{rowOf}
+use Rattle.guide.specs.meaning.View.{rowOf}
 use Rattle.placing.specs.meaning.Plan.{planOf, opening, isTrigger}
 use Rattle.placing.specs.meaning.Tree.{owner}
 use Rattle.placing_laws.proofs.Structured.{Structured, structured}
 use Rattle.rules.specs.meaning.Instances.{segmentsOf, instancesOf, shownBy, firstIn, firstOf, isPresent, placeIn}
-use Rattle.rules.specs.meaning.FirstRow.{Entry, entryFor, entriesIn, entriesFrom, entriesOf}
+use Rattle.rules.specs.meaning.Entries.{Entry, entryFor, entriesIn, entriesFrom, entriesOf}
 use Rattle.rules_laws.proofs.Fillings.{LooksAt}
 use Rattle.rules_laws.proofs.Exact.{breaks-looks}
 use Rattle.rules_laws.proofs.Lines.{apart}

@@ -8,21 +8,23 @@ use mathlib.Core.List.{List, [], _∷_, _++_, map}
 use mathlib.Core.Bool.{Bool, true, false, not, cond, _&&_, _||_, true≢false, false≢true}
 use lib.Dec.{eqb}
 use borrow.Author.Tests.{eq-eqb, ne-eqb, eqb-true, eqb-false}
-use Rattle.book.specs.meaning.Guide.{Guide, guideOf}
+use Rattle.guide.specs.meaning.Guide.{Guide, guideOf}
 use Rattle.book.specs.meaning.GoodBook.{GoodBook}
-use Rattle.book.specs.meaning.View.{Row, rowOf}
+use Rattle.guide.specs.meaning.View.{Row, rowOf}
 use Rattle.book_laws.proofs.ViewedRows.{required-row}
 use Rattle.placing.specs.meaning.Plan.{planOf, planIn, opening}
 use Rattle.placing.specs.meaning.Placement.{Placed, parentsOf}
-use Rattle.placing.specs.meaning.Tree.{owner, closedParents}
+use Rattle.placing.specs.meaning.Tree.{owner}
+use Rattle.placing.specs.method.ClosedTree.{closedParents}
 use Rattle.placing.specs.method.Tree.{notedParents}
 use Rattle.placing_laws.proofs.Structured.{structured}
 use Rattle.placing_laws.proofs.Noted.{tree}
 use Rattle.placing_laws.proofs.Closed.{tree-closed}
-use Rattle.rules.specs.meaning.Conditions.{Assignment, some, every, firstUnknown}
+use Rattle.rules.specs.meaning.Conditions.{Assignment}
+use Rattle.rules.specs.method.FirstFound.{some, every, firstUnknown, reported, foundAmong, firstRow}
 use Rattle.rules.specs.meaning.Rows.{conditionsOf, isBroken, expression}
 use Rattle.rules.specs.meaning.Instances.{instancesOf, shownBy, firstOf, isPresent, placeIn}
-use Rattle.rules.specs.meaning.FirstRow.{Entry, entryFor, entriesIn, entriesFrom, reported, foundAmong, firstRow}
+use Rattle.rules.specs.meaning.Entries.{Entry, entryFor, entriesIn, entriesFrom}
 use Rattle.rules.specs.method.Scanning.{Instance, instanceOf, instancesIn, weighed, breachOf, watchOf, isNever, isIdle, reportOf, reportIn, firstFound, scannedIn, scannedLine, scannedFrom, scannedRow}
 use Rattle.rules.specs.declared.breach.Breach.{Breach}
 use Rattle.rules.specs.declared.breach.Breach.the-variants.{Never, Always, Sometimes}

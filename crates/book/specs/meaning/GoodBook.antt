@@ -4,10 +4,11 @@ use mathlib.Core.Path.{_≡_}
 use mathlib.Core.List.{List}
 use lib.ListN.{length}
 use Rattle.reading.specs.meaning.Tag.{UNH, UNT, tagNumber}
-use Rattle.book.specs.meaning.Words.{segmentKind, groupKind, withElementPresence, textForm, numberForm, mustMode, mayMode, mustIfMode, mayIfMode, allJoint, anyJoint}
-use Rattle.book.specs.meaning.Header.{editionNumber, totalLength, lineTotal, linesOffset, codeTotal, codesOffset, fieldTotal, fieldsOffset, identifierTotal, identifiersOffset, rowsOffset, conditionTotal, lastNumber}
-use Rattle.book.specs.meaning.Edition.{editionOf}
-use Rattle.book.specs.meaning.Guide.{Guide, guideOf}
+use Rattle.guide.specs.meaning.Words.{segmentKind, groupKind, withElementPresence, textForm, numberForm, mustMode, mayMode, mustIfMode, mayIfMode, allJoint, anyJoint}
+use Rattle.guide.specs.meaning.Header.{editionNumber, totalLength, lineTotal, linesOffset, codesOffset, fieldsOffset, identifierTotal, identifiersOffset, rowsOffset, conditionTotal, lastNumber}
+use Rattle.guide.specs.meaning.Edition.{editionOf}
+use Rattle.guide.specs.meaning.Blocks.{codesFrom, fieldsFrom, identifiersFrom, rowsFrom, bookEnd}
+use Rattle.guide.specs.meaning.Guide.{Guide, guideOf}
 use Rattle.book.specs.meaning.Rule.{Rule, _≐_, _≼_, _and_, _or_, _⇒_, never, every, Holds}
 
 abbrev pub between : ℕ → ℕ → ℕ → Rule
@@ -28,23 +29,7 @@ small x = between 0x61 x 0x7a
 unfoldable pub editionRule : List ℕ → Rule
 editionRule bs = editionNumber bs ≐ editionOf bs .number and lastNumber bs ≐ 0
 
--- where the blocks begin: "in this order without gaps", "28 + 20L + 8C + 12F + 8P + 8PL"
-abbrev pub codesFrom : List ℕ → ℕ
-codesFrom bs = editionOf bs .header + editionOf bs .line * lineTotal bs
-
-abbrev pub fieldsFrom : List ℕ → ℕ
-fieldsFrom bs = codesFrom bs + editionOf bs .code * codeTotal bs
-
-abbrev pub identifiersFrom : List ℕ → ℕ
-identifiersFrom bs = fieldsFrom bs + editionOf bs .field * fieldTotal bs
-
-abbrev pub rowsFrom : List ℕ → ℕ
-rowsFrom bs = identifiersFrom bs + editionOf bs .identifier * identifierTotal bs
-
--- where the last one ends
-abbrev pub bookEnd : List ℕ → ℕ
-bookEnd bs = rowsFrom bs + editionOf bs .row * (identifierTotal bs * lineTotal bs)
-
+-- 01: "in this order without gaps"
 unfoldable pub blocksRule : List ℕ → Rule
 blocksRule bs =
     linesOffset bs ≐ editionOf bs .header
@@ -116,12 +101,6 @@ module _ (g : Guide) where
   unfoldable pub groupRule : ℕ → Rule
   groupRule l = group l ⇒ (g .codeCount l ≐ 0 and g .fieldCount l ≐ 0)
 
-  unfoldable pub lineRule : ℕ → Rule
-  lineRule l =
-      (kindRule l and depthRule l and tagRule l)
-      and (requiredRule l and selectorRule l and codeRangeRule l)
-      and (maximumRule l and fieldRangeRule l and groupRule l)
-
   -- ---- Code
 
   -- 01: "length 1–6; six bytes from A–Z, a–z, 0–9 and `.`, zero after the length; a zero."
@@ -165,9 +144,6 @@ module _ (g : Guide) where
   unfoldable pub identifierRises : ℕ → Rule
   identifierRises p = p + 1 + 1 ≼ g .identifiers ⇒ identifierNumber p + 1 ≼ identifierNumber (p + 1)
 
-  unfoldable pub identifierRule : ℕ → Rule
-  identifierRule p = identifierFormRule p and identifierRises p
-
   -- ---- Row
 
   -- 01: "a byte is the number, plus 128 for "not"; numbers reach the condition count at most", "numbers at least 1"
@@ -200,9 +176,6 @@ module _ (g : Guide) where
   -- 01: "Rows of required lines have mode 1." (Rows: "one per Prüfidentifikator and line, lines running fastest")
   unfoldable pub requiredRowRule : ℕ → Rule
   requiredRowRule r = g .required (r % g .lines + 1) ≐ 1 ⇒ g .mode r ≐ mustMode
-
-  unfoldable pub rowRule : ℕ → Rule
-  rowRule r = modeRule r and rowEndRule r and requiredRowRule r
 
   -- ---- Structure
 
@@ -274,10 +247,6 @@ module _ (g : Guide) where
 
   unfoldable pub carrierGroupRule : ℕ → Rule
   carrierGroupRule l = aroundRule l (g .carrier) ⇒ (g .required l ≐ 1 and g .maximum l ≐ 1)
-
-  -- what is asked of a line among the others, but for its home
-  unfoldable pub structureRule : ℕ → Rule
-  structureRule l = (risingFieldsRule l and triggerRule l and fallRule l) and onlyFramesRule l and carrierGroupRule l
 
 -- a good book: every rule holds. The layers above use these clauses by name.
 pub record GoodBook (bs : List ℕ) : Type 0 where

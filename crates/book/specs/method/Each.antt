@@ -2,11 +2,30 @@
 use Prim.Native.Nat.{ℕ, _+_, _*_, _-_, _≤_, _<_, _^_}
 use mathlib.Core.Path.{_≡_}
 use mathlib.Core.List.{List}
-use Rattle.book.specs.meaning.Guide.{Guide}
-use Rattle.book.specs.meaning.Rule.{Rule, _and_, every, all, run}
-use Rattle.book.specs.meaning.GoodBook.{editionRule, lengthRule, blocksRule, countsRule, lineRule, codeRule, fieldRule, identifierRule, rowRule, fieldRises, deeperRule, framesRule, carrierRule, structureRule, pairRule}
+use Rattle.guide.specs.meaning.Guide.{Guide}
+use Rattle.book.specs.meaning.Rule.{Rule, _and_, every}
+use Rattle.book.specs.method.Run.{all, run}
+use Rattle.book.specs.meaning.GoodBook.{editionRule, lengthRule, blocksRule, countsRule, kindRule, depthRule, tagRule, requiredRule, selectorRule, codeRangeRule, maximumRule, fieldRangeRule, groupRule, codeRule, fieldRule, identifierFormRule, identifierRises, modeRule, rowEndRule, requiredRowRule, risingFieldsRule, triggerRule, fallRule, onlyFramesRule, carrierGroupRule, fieldRises, deeperRule, framesRule, carrierRule, pairRule}
 use Rattle.book.specs.declared.every.Each.{Each}
 use Rattle.book.specs.declared.every.Each.the-variants.{Line, Code, Field, Identifier, Row, FieldRises, Deeper}
+
+-- what is asked of one record
+module _ (g : Guide) where
+  unfoldable pub lineRule : ℕ → Rule
+  lineRule l =
+      (kindRule g l and depthRule g l and tagRule g l)
+      and (requiredRule g l and selectorRule g l and codeRangeRule g l)
+      and (maximumRule g l and fieldRangeRule g l and groupRule g l)
+
+  unfoldable pub identifierRule : ℕ → Rule
+  identifierRule p = identifierFormRule g p and identifierRises g p
+
+  unfoldable pub rowRule : ℕ → Rule
+  rowRule r = modeRule g r and rowEndRule g r and requiredRowRule g r
+
+  -- and of a line among the others, but for its home
+  unfoldable pub structureRule : ℕ → Rule
+  structureRule l = (risingFieldsRule g l and triggerRule g l and fallRule g l) and onlyFramesRule g l and carrierGroupRule g l
 
 abbrev pub ruleFor : Each → Guide → ℕ → ℕ → Rule
 ruleFor Line g subject number = lineRule g number

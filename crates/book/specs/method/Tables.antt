@@ -5,8 +5,8 @@ use mathlib.Core.Path.{_≡_}
 use mathlib.Core.List.{List}
 use lib.Dec.{eqb}
 use lib.ListN.{getD}
-use Rattle.book.specs.meaning.Guide.{Guide}
-use Rattle.book.specs.meaning.Rule.{run}
+use Rattle.guide.specs.meaning.Guide.{Guide}
+use Rattle.book.specs.method.Run.{run}
 use Rattle.book.specs.meaning.GoodBook.{notAmongRule}
 
 -- a code's eight bytes as one number

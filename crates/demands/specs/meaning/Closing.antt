@@ -5,10 +5,10 @@ use mathlib.Core.Path.{_≡_}
 use mathlib.Core.Logic.{_↔_, _⊎_}
 use mathlib.Core.List.{List}
 use lib.ListN.{length}
-use Rattle.book.specs.meaning.Guide.{guideOf}
+use Rattle.guide.specs.meaning.Guide.{guideOf}
 use Rattle.book.specs.meaning.GoodBook.{GoodBook}
 use Rattle.reading.specs.meaning.Service.{All, standard}
-use Rattle.framing.specs.meaning.Record.{numbersOf}
+use Rattle.framing.specs.meaning.Record.{answer, numbersOf}
 use Rattle.framing.specs.declared.verdict.Verdict.{Verdict}
 use Rattle.rules.specs.meaning.Conditions.{told, Fills, Learns}
 use Rattle.judging.specs.meaning.Tables.{Tables, roomOf}
@@ -23,7 +23,7 @@ pub record Handed : Type 0 where
   pub message : List ℕ
   pub book : List ℕ
   pub conditions : List ℕ
-  -- lent, as they are before the call
+  -- lent, as they are before the call: the three tables, and the entries of the record
   pub tables : Tables
   pub entries : List ℕ
 
@@ -33,7 +33,8 @@ pub record Left : Type 0 where
   pub tables : Tables
   pub entries : List ℕ
 
--- an outcome that the contract admits
+-- an outcome that the contract admits. The contract has the arguments one in another, in their order: message, book, conditions, starts, homes,
+-- parents, and the lent record.
 pub record Promised (h : Handed) (l : Left) : Type 1 where
   pub lifetimes : _
   pub passed : _
@@ -59,6 +60,10 @@ knowing cs h = record { message = h .message; book = h .book; conditions = cs; t
 abbrev pub Answers : Handed → Left → Verdict → Type 0
 Answers h l v = (l .number ≡ v .number) × (l .entries ≡ asManyAsFit (numbersOf v) (h .entries))
 
+-- the verdict that 01's table says of what is handed over
+abbrev pub Says : Handed → Verdict → Type 0
+Says h v = TableSays standard (h .message) (h .book) (h .conditions) (roomOf (h .tables)) v
+
 -- the lent record has room for a whole verdict, so that it can be seen
 abbrev pub Shown : Handed → Type 0
 Shown h = 6 ≤ length (h .entries)
@@ -70,9 +75,9 @@ IsOther l = (l .number ≡ 0) ⊎ (12 ≤ l .number)
 -- ---- what every call keeps
 
 pub record Kept (h : Handed) (l : Left) : Type 1 where
-  -- a verdict is the answer, and where there is room for it no other is
-  pub answer : (v : Verdict) × Answers h l v
-  pub one-answer : Shown h → (v w : Verdict) → Answers h l v → Answers h l w → v ≡ w
+  -- the answer is the verdict that the table says, whatever room the record has, and where the whole verdict is shown no other is
+  pub verdict : (v : Verdict) × (Says h v × Answers h l v)
+  pub one-verdict : Shown h → (v w : Verdict) → Answers h l v → Answers h l w → v ≡ w
   -- Demand 1: "Refusals 1 to 11 leave the caller's three tables untouched; every other answer leaves the message's tree in them, the
   -- same tree whatever is known of the conditions."
   pub untouched : 1 ≤ l .number → l .number ≤ 11 → l .tables ≡ h .tables
@@ -85,8 +90,10 @@ pub record Kept (h : Handed) (l : Left) : Type 1 where
       → j .tables ≡ k .tables
   -- Demand 2: "a message is accepted exactly when ..", "Otherwise the answer is the first fault in the stated order, at its exact place."
   pub accepted : GoodBook (h .book) → FitConditions (guideOf (h .book)) (h .conditions) → All (λ c. c < 2) (h .conditions)
-      → WithinLimits standard (h .message) (roomOf (h .tables)) → (l .number ≡ 0) ↔ ((n : ℕ) × Accepted standard (h .message) (h .book) (told (h .conditions)) n)
-  pub fault : Shown h → (v : Verdict) → Answers h l v ↔ TableSays standard (h .message) (h .book) (h .conditions) (roomOf (h .tables)) v
+      → WithinLimits standard (h .message) (roomOf (h .tables))
+      → (l .number ≡ 0 → (n : ℕ) × (Accepted standard (h .message) (h .book) (told (h .conditions)) n × Answers h l (answer 0 n)))
+      × ((n : ℕ) → Accepted standard (h .message) (h .book) (told (h .conditions)) n → Answers h l (answer 0 n))
+  pub fault : Shown h → (v : Verdict) → Answers h l v ↔ Says h v
   -- Demand 3: "A verdict other than "open" is given exactly when every filling gets that same verdict, place and line included; "open" is
   -- given exactly when two fillings get different ones. So learning more never changes a verdict once given."
   pub sure : Shown h → (v : Verdict) → (v .number ≡ 15 → ⊥)

@@ -6,9 +6,9 @@ use mathlib.Core.Logic.{_↔_}
 use mathlib.Core.List.{List, [], _∷_, _++_}
 use mathlib.Core.Bool.{Bool, true, false}
 use lib.ListN.{length, drop}
-use Rattle.book.specs.meaning.Guide.{guideOf}
+use Rattle.guide.specs.meaning.Guide.{guideOf}
 use Rattle.book.specs.meaning.GoodBook.{GoodBook}
-use Rattle.book.specs.meaning.View.{lineOf}
+use Rattle.guide.specs.meaning.View.{lineOf}
 use Rattle.reading.specs.meaning.Limits.{mostBytes, mostSegments}
 use Rattle.reading.specs.meaning.Service.{All}
 use Rattle.reading.specs.meaning.Message.{Message}

@@ -7,9 +7,9 @@ use mathlib.Core.Logic.{_⊎_}
 use mathlib.Core.List.{List, [], _∷_, map}
 use mathlib.Core.Bool.{true}
 use lib.ListN.{length}
-use Rattle.book.specs.meaning.Guide.{Guide, guideOf}
+use Rattle.guide.specs.meaning.Guide.{Guide, guideOf}
 use Rattle.book.specs.meaning.GoodBook.{GoodBook}
-use Rattle.book.specs.meaning.View.{lineOf}
+use Rattle.guide.specs.meaning.View.{lineOf}
 use Rattle.reading.specs.meaning.Service.{All}
 use Rattle.reading.specs.meaning.Message.{Segment, Message}
 use Rattle.reading.specs.meaning.Component.{valueAt}
@@ -21,7 +21,7 @@ use Rattle.placing.specs.meaning.Answers.{HaveHomes, FirstWithout}
 use Rattle.fields.specs.meaning.Fields.{In, LeastFault}
 use Rattle.fields.specs.declared.fault.Fault.the-variants.{At, Clean}
 use Rattle.rules.specs.meaning.Conditions.{Assignment, isUnknown, Filling}
-use Rattle.rules.specs.meaning.FirstRow.{Entry, entriesOf}
+use Rattle.rules.specs.meaning.Entries.{Entry, entriesOf}
 use Rattle.rules.specs.meaning.Identifiers.{identifierValue}
 use Rattle.framing.specs.meaning.Record.{place, verdict, answer}
 use Rattle.framing.specs.declared.message.Room.{Room}

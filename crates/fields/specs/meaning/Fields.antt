@@ -4,8 +4,8 @@ use Prim.Native.Nat.{ℕ, _≤_, _<_}
 use mathlib.Core.Path.{_≡_}
 use mathlib.Core.List.{List, [], _∷_}
 use lib.ListN.{length}
-use Rattle.book.specs.meaning.View.{Field}
-use Rattle.book.specs.meaning.Words.{numberForm, emptyPresence, mustPresence, withElementPresence}
+use Rattle.guide.specs.meaning.View.{Field}
+use Rattle.guide.specs.meaning.Words.{numberForm, emptyPresence, mustPresence, withElementPresence}
 use Rattle.reading.specs.meaning.Message.{Component}
 use Rattle.reading.specs.declared.service.Service.{Service}
 use Rattle.fields.specs.meaning.Number.{IsNumber, figures}

@@ -4,7 +4,7 @@ use mathlib.Core.Path.{_≡_}
 use mathlib.Core.List.{List, [], _∷_}
 use mathlib.Core.Bool.{Bool, true, false, cond}
 use lib.ListN.{length, take, drop}
-use Rattle.book.specs.meaning.View.{numbersFrom}
+use Rattle.guide.specs.meaning.View.{numbersFrom}
 use Rattle.reading.specs.meaning.Component.{valueOf}
 use Rattle.reading.specs.method.Machine.{kindOf}
 use Rattle.reading.specs.declared.service.Service.{Service}

@@ -1,14 +1,14 @@
 -- The test of a segment against its line's fields as it is done: one pass over its components, as they are written, and over the
--- fields. Total for any bytes, any book and any service characters; the laws of proofs/ say that it finds the least fault.
+-- fields. Total for any bytes, any book and any service characters; the laws of fields_laws say that it finds the least fault.
 use Prim.Native.Nat.{ℕ, suc, _+_, _≤_, _<_}
 use mathlib.Core.Path.{_≡_}
 use mathlib.Core.List.{List, [], _∷_}
 use mathlib.Core.Bool.{Bool, false, cond, not, _&&_, _||_}
 use lib.Dec.{eqb, leb}
 use lib.ListN.{length, getD, drop}
-use Rattle.book.specs.meaning.Guide.{Guide}
-use Rattle.book.specs.meaning.View.{numbersFrom}
-use Rattle.book.specs.meaning.Words.{numberForm, emptyPresence, mustPresence, withElementPresence}
+use Rattle.guide.specs.meaning.Guide.{Guide}
+use Rattle.guide.specs.meaning.View.{numbersFrom}
+use Rattle.guide.specs.meaning.Words.{numberForm, emptyPresence, mustPresence, withElementPresence}
 use Rattle.placing.specs.method.Fitting.{isAnyCode}
 use Rattle.reading.specs.meaning.Component.{valueOf}
 use Rattle.reading.specs.declared.service.Service.{Service}

@@ -2,8 +2,6 @@
 -- entries not named are 0."
 use Prim.Native.Nat.{ℕ}
 use mathlib.Core.List.{List, [], _∷_}
-use mathlib.Core.Bool.{cond}
-use lib.Dec.{eqb}
 use Rattle.framing.specs.declared.verdict.Place.{Place}
 use Rattle.framing.specs.declared.verdict.Verdict.{Verdict}
 
@@ -20,7 +18,3 @@ answer number k = verdict number (place k 0 0 0) 0
 -- the record's numbers in 01's order
 abbrev pub numbersOf : Verdict → List ℕ
 numbersOf v = v .number ∷ v .place .at ∷ v .place .line ∷ v .place .element ∷ v .place .component ∷ v .condition ∷ []
-
--- 01: "It stops at the first fault in this order."
-abbrev pub orElse : Verdict → Verdict → Verdict
-orElse v w = cond (eqb (v .number) 0) w v

@@ -20,6 +20,10 @@ use Rattle.framing.specs.declared.survey.Frame.the-variants.{Misplaced, 
 use Rattle.framing.specs.declared.message.Room.{Room}
 use Rattle.framing.specs.declared.verdict.Verdict.{Verdict}
 
+-- 01: "It stops at the first fault in this order."
+abbrev pub orElse : Verdict → Verdict → Verdict
+orElse v w = cond (eqb (v .number) 0) w v
+
 -- 01, number 3: "message empty or over 16,777,216 bytes" is not the case
 abbrev pub isSized : List ℕ → Bool
 isSized bs = ltb 0 (length bs) && leb (length bs) mostBytes

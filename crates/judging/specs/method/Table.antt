@@ -5,13 +5,13 @@ use mathlib.Core.List.{List, [], _∷_}
 use mathlib.Core.Bool.{Bool, true, cond, _&&_}
 use lib.Dec.{eqb, leb}
 use lib.ListN.{length, getD}
-use Rattle.book.specs.meaning.Guide.{Guide, guideOf}
-use Rattle.book.specs.meaning.Rule.{run}
+use Rattle.guide.specs.meaning.Guide.{Guide, guideOf}
+use Rattle.book.specs.method.Run.{run}
 use Rattle.book.specs.method.Each.{headerRule, recordsRule, framedRule}
 use Rattle.reading.specs.method.Starts.{startsFrom}
 use Rattle.reading.specs.declared.service.Service.{Service}
-use Rattle.framing.specs.meaning.Record.{answer, orElse}
-use Rattle.framing.specs.method.Stages.{componentAt, messageStage}
+use Rattle.framing.specs.meaning.Record.{answer}
+use Rattle.framing.specs.method.Stages.{orElse, componentAt, messageStage}
 use Rattle.framing.specs.declared.message.Room.{Room}
 use Rattle.framing.specs.declared.verdict.Verdict.{Verdict}
 use Rattle.placing.specs.meaning.Plan.{planIn}

@@ -4,8 +4,8 @@ use mathlib.Core.Path.{_≡_}
 use mathlib.Core.List.{List}
 use mathlib.Core.Bool.{Bool, false, cond}
 use lib.Dec.{eqb}
-use Rattle.book.specs.meaning.Guide.{Guide, guideOf}
-use Rattle.book.specs.meaning.Words.{groupKind}
+use Rattle.guide.specs.meaning.Guide.{Guide, guideOf}
+use Rattle.guide.specs.meaning.Words.{groupKind}
 
 pub record Plan : Type 0 where
   pub lines : ℕ

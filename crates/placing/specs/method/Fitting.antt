@@ -4,8 +4,8 @@ use mathlib.Core.List.{List, [], _∷_}
 use mathlib.Core.Bool.{Bool, true, false, not, _&&_, _||_}
 use lib.Dec.{eqb}
 use lib.ListN.{length}
-use Rattle.book.specs.meaning.Guide.{Guide}
-use Rattle.book.specs.meaning.Words.{groupKind}
+use Rattle.guide.specs.meaning.Guide.{Guide}
+use Rattle.guide.specs.meaning.Words.{groupKind}
 use Rattle.reading.specs.method.Machine.{seekFrom}
 use Rattle.reading.specs.method.Tag.{tagAt}
 use Rattle.reading.specs.method.Part.{bytesIn}

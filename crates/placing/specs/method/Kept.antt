@@ -6,8 +6,8 @@ use mathlib.Core.List.{List}
 use mathlib.Core.Bool.{cond}
 use lib.Dec.{eqb, ltb}
 use lib.ListN.{getD}
-use Rattle.book.specs.meaning.Guide.{Guide}
-use Rattle.book.specs.meaning.Words.{groupKind}
+use Rattle.guide.specs.meaning.Guide.{Guide}
+use Rattle.guide.specs.meaning.Words.{groupKind}
 use Rattle.reading.specs.method.Machine.{seekFrom}
 use Rattle.reading.specs.declared.service.Service.{Service}
 use Rattle.placing.specs.meaning.Fitting.{least}

@@ -4,7 +4,7 @@ use mathlib.Core.List.{List, [], _∷_, _++_, map}
 use mathlib.Core.Bool.{Bool, cond, not, _&&_}
 use lib.Dec.{eqb}
 use lib.Seq.{sets}
-use Rattle.book.specs.meaning.Guide.{guideOf}
+use Rattle.guide.specs.meaning.Guide.{guideOf}
 use Rattle.reading.specs.declared.service.Service.{Service}
 use Rattle.placing.specs.meaning.Plan.{Plan, planIn}
 use Rattle.placing.specs.method.Fitting.{homeAt}

@@ -1,6 +1,6 @@
 -- The walk through the lines as it is done, home by home: the open lines, outermost first, each with how often it has come in its
 -- parent's instance. No open line is a refusal. 01: "The open line and a count kept for each of the eight depths tell how far it
--- has come." The laws of proofs/ say what the walk means in terms of placement trees.
+-- has come." The laws of placing_laws say what the walk means in terms of placement trees.
 use Prim.Native.Nat.{ℕ, zero, suc, _-_, _≤_, _<_}
 use mathlib.Core.Path.{_≡_}
 use mathlib.Core.List.{List, [], _∷_, _++_}

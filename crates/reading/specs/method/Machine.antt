@@ -1,5 +1,5 @@
 -- The reading as it is done, byte by byte: definitions that compute, total for any five service characters.
--- The laws of proofs/ say that, under a good set, they mean what Message, WellFormed and Component say.
+-- The laws of reading_laws say that, under a good set, they mean what Message, WellFormed and Component say.
 use Prim.Native.Nat.{ℕ, _+_}
 use mathlib.Core.List.{List, [], _∷_}
 use mathlib.Core.Bool.{Bool, true, false, not, _&&_}
@@ -205,5 +205,3 @@ abbrev pub componentSpan : Service → List ℕ → ℕ → ℕ → ℕ → Span
 componentSpan s bs at e c =
     pick (eqb e 0) (span (length bs) (length bs))
     (pick (eqb c 0) (span (length bs) (length bs)) (spanBy s bs at e c (segmentEnd s bs at)))
-
--- ---- two components

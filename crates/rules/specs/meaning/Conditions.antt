@@ -1,10 +1,10 @@
 -- Conditions: what the caller says of them, and the ways to fill in what is unknown. 01, number 2 and numbers 14 and 15.
-use Prim.Native.Nat.{ℕ, zero, suc, _-_, _<_, _≤_}
+use Prim.Native.Nat.{ℕ, zero, suc, _<_, _≤_}
 use mathlib.Core.Path.{_≡_}
 use mathlib.Core.List.{List, [], _∷_}
-use mathlib.Core.Bool.{Bool, true, false, not, cond, _||_}
+use mathlib.Core.Bool.{Bool, true, false}
 use lib.Dec.{eqb}
-use lib.ListN.{getD, set}
+use lib.ListN.{getD}
 
 -- a truth value for each condition number
 abbrev pub Assignment : Type 0
@@ -47,22 +47,3 @@ Learns [] [] = Unit {0}
 Learns [] (d ∷ ds) = ⊥
 Learns (c ∷ cs) [] = ⊥
 Learns (c ∷ cs) (d ∷ ds) = Learned (eqb c 2) c d × Learns cs ds
-
--- ---- "some filling", "every filling": of the conditions that a test looks at, one after the other, the unknown ones are tried
--- with false and with true (laws some-filling and every-filling)
-
--- the list where condition k is known
-abbrev pub filled : List ℕ → ℕ → ℕ → List ℕ
-filled cs k c = set cs (k - 1) c
-
-unfoldable pub some : List ℕ → List ℕ → (Assignment → Bool) → Bool
-some cs [] test = test (told cs)
-some cs (k ∷ ks) test = cond (isUnknown cs k) (some (filled cs k 0) ks test || some (filled cs k 1) ks test) (some cs ks test)
-
-abbrev pub every : List ℕ → List ℕ → (Assignment → Bool) → Bool
-every cs ks test = not (some cs ks (λ a. not (test a)))
-
--- the first of these that is unknown, 0 if there is none
-unfoldable pub firstUnknown : List ℕ → List ℕ → ℕ
-firstUnknown cs [] = 0
-firstUnknown cs (k ∷ ks) = cond (isUnknown cs k) k (firstUnknown cs ks)

@@ -1,7 +1,7 @@
 -- The Prüfidentifikator's value. 01, number 13.
 use Prim.Native.Nat.{ℕ}
 use mathlib.Core.List.{List, [], _∷_}
-use Rattle.book.specs.meaning.Guide.{Guide}
+use Rattle.guide.specs.meaning.Guide.{Guide}
 
 -- 01: "five digits"
 abbrev pub identifierValue : Guide → ℕ → List ℕ

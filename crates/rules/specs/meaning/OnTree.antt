@@ -5,8 +5,8 @@ use Prim.Native.Nat.{ℕ, suc}
 use mathlib.Core.Path.{_≡_}
 use mathlib.Core.Bool.{Bool, true, false}
 use lib.Dec.{leb}
-use Rattle.book.specs.meaning.Guide.{Guide}
-use Rattle.book.specs.meaning.View.{rowOf}
+use Rattle.guide.specs.meaning.Guide.{Guide}
+use Rattle.guide.specs.meaning.View.{rowOf}
 use Rattle.placing.specs.meaning.Plan.{planOf, Of}
 use Rattle.placing.specs.meaning.Placement.{Contents, nothing, segment, instance, count}
 use Rattle.rules.specs.meaning.Conditions.{Assignment}

@@ -3,8 +3,8 @@ use Prim.Native.Nat.{ℕ, _%_}
 use mathlib.Core.List.{List, [], _∷_, map}
 use mathlib.Core.Bool.{Bool, true, false, not, cond, _&&_, _||_}
 use lib.Dec.{eqb, leb}
-use Rattle.book.specs.meaning.View.{Row, inUse}
-use Rattle.book.specs.meaning.Words.{anyJoint, neverMode, mustMode, mustIfMode, mayIfMode}
+use Rattle.guide.specs.meaning.View.{Row, inUse}
+use Rattle.guide.specs.meaning.Words.{anyJoint, neverMode, mustMode, mustIfMode, mayIfMode}
 use Rattle.rules.specs.meaning.Conditions.{Assignment}
 
 -- 01: "a byte is the number, plus 128 for "not""

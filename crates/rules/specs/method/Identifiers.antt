@@ -2,7 +2,7 @@
 use Prim.Native.Nat.{ℕ, zero, suc}
 use mathlib.Core.List.{List}
 use mathlib.Core.Bool.{cond}
-use Rattle.book.specs.meaning.Guide.{Guide}
+use Rattle.guide.specs.meaning.Guide.{Guide}
 use Rattle.reading.specs.meaning.Component.{sameComponent}
 use Rattle.rules.specs.declared.identifier.Identified.{Identified}
 use Rattle.rules.specs.declared.identifier.Identified.the-variants.{Known, Foreign}

@@ -5,12 +5,13 @@ use Prim.Native.Nat.{ℕ, zero, suc}
 use mathlib.Core.List.{List, [], _∷_}
 use mathlib.Core.Bool.{Bool, true, false, not, cond, _&&_, _||_}
 use lib.Dec.{eqb, ltb}
-use Rattle.book.specs.meaning.Guide.{Guide}
-use Rattle.book.specs.meaning.View.{Row, rowOf, inUse}
-use Rattle.book.specs.meaning.Words.{anyJoint}
+use Rattle.guide.specs.meaning.Guide.{Guide}
+use Rattle.guide.specs.meaning.View.{Row, rowOf, inUse}
+use Rattle.guide.specs.meaning.Words.{anyJoint}
 use Rattle.placing.specs.meaning.Plan.{planOf, opening}
 use Rattle.placing.specs.meaning.Tree.{owner}
-use Rattle.rules.specs.meaning.Conditions.{told, isUnknown, firstUnknown}
+use Rattle.rules.specs.meaning.Conditions.{told, isUnknown}
+use Rattle.rules.specs.method.FirstFound.{firstUnknown}
 use Rattle.rules.specs.meaning.Rows.{conditionNumber, literal, conditionsOf, isBroken}
 use Rattle.rules.specs.meaning.Instances.{shownBy, placeIn}
 use Rattle.rules.specs.declared.breach.Breach.{Breach}

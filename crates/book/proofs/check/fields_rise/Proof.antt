@@ -3,8 +3,9 @@ use Prim.Native.Nat.{_-_, ℕ}
 use mathlib.Core.Path.{_∙_, ap, ap₂}
 use borrow.Author.Needs.{needs}
 use Rattle.book.specs.meaning.GoodBook.{fieldRises, risingFieldsRule}
-use Rattle.book.specs.meaning.Guide.{guideOf}
-use Rattle.book.specs.meaning.Rule.{every, run}
+use Rattle.guide.specs.meaning.Guide.{guideOf}
+use Rattle.book.specs.meaning.Rule.{every}
+use Rattle.book.specs.method.Run.{run}
 use Rattle.book.proofs.check.fields_rise.Statement.{statement}
 use Rattle.book.proofs.check.fields_rise.Tie as tie
 

@@ -1,8 +1,7 @@
 -- `check::frame_is_good` meets its contract: it joins the tests as the rule joins its parts.
 use borrow.Author.Needs.{needs}
-use Rattle.book.specs.meaning.GoodBook.{structureRule}
-use Rattle.book.specs.meaning.Guide.{guideOf}
-use Rattle.book.specs.method.Each.{framedRule}
+use Rattle.book.specs.method.Each.{structureRule, framedRule}
+use Rattle.guide.specs.meaning.Guide.{guideOf}
 use Rattle.book.proofs.Joining.{asked, both}
 use Rattle.book.proofs.check.frame_is_good.Statement.{statement}
 use Rattle.book.proofs.check.frame_is_good.Tie as tie

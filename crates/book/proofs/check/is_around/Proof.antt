@@ -4,9 +4,10 @@ use mathlib.Core.Path.{_∙_, ap}
 use lib.Dec.{leb}
 use borrow.Author.Needs.{needs}
 use Rattle.book.specs.meaning.GoodBook.{aroundRule, deeperRule}
-use Rattle.book.specs.meaning.Guide.{guideOf}
-use Rattle.book.specs.meaning.Rule.{every, run}
-use Rattle.book.specs.meaning.Words.{groupKind}
+use Rattle.guide.specs.meaning.Guide.{guideOf}
+use Rattle.book.specs.meaning.Rule.{every}
+use Rattle.book.specs.method.Run.{run}
+use Rattle.guide.specs.meaning.Words.{groupKind}
 use Rattle.book.proofs.Joining.{as-is, both, is}
 use Rattle.book.proofs.check.is_around.Statement.{statement}
 use Rattle.book.proofs.check.is_around.Tie as tie

@@ -4,9 +4,9 @@ use native.Mathlib.Omega.{arith}
 use mathlib.Core.Path.{_∙_, ap₂, sym}
 use borrow.Author.Needs.{needs}
 use borrow.Author.Tests.{not-false, not-true}
-use Rattle.book.specs.meaning.GoodBook.{codeRule, fieldRule, identifierRule, lineRule, rowRule}
-use Rattle.book.specs.meaning.Guide.{guideOf}
-use Rattle.book.specs.method.Each.{recordsRule}
+use Rattle.book.specs.meaning.GoodBook.{codeRule, fieldRule}
+use Rattle.book.specs.method.Each.{identifierRule, lineRule, rowRule, recordsRule}
+use Rattle.guide.specs.meaning.Guide.{guideOf}
 use Rattle.book.proofs.Joining.{asked}
 use Rattle.book.proofs.Rules.{fails-here, goes-on}
 use Rattle.book.proofs.check.records_are_good.Statement.{statement}

@@ -1,6 +1,6 @@
 -- `check::structure_is_good` meets its contract: it joins the tests as the rule joins its parts.
 use borrow.Author.Needs.{needs}
-use Rattle.book.specs.meaning.GoodBook.{structureRule}
+use Rattle.book.specs.method.Each.{structureRule}
 use Rattle.book.proofs.Joining.{both}
 use Rattle.book.proofs.check.structure_is_good.Statement.{statement}
 use Rattle.book.proofs.check.structure_is_good.Tie as tie

@@ -3,9 +3,9 @@ use Prim.Native.Nat.{ℕ, _+_}
 use native.Mathlib.Omega.{arith}
 use mathlib.Core.Path.{_≡_, refl, sym, _∙_}
 use borrow.Author.Tests.{not-true, not-false}
-use Rattle.book.specs.meaning.GoodBook.{structureRule}
-use Rattle.book.specs.meaning.Guide.{guideOf}
-use Rattle.book.specs.meaning.Rule.{run, all}
+use Rattle.book.specs.method.Each.{structureRule}
+use Rattle.guide.specs.meaning.Guide.{guideOf}
+use Rattle.book.specs.method.Run.{run, all}
 use Rattle.book.proofs.Rules.{all-end, all-fail, all-on}
 use Rattle.book.proofs.check.structures_are_good.Statement.{statement}
 use Rattle.book.proofs.check.structures_are_good.Tie as tie

@@ -3,8 +3,8 @@ use Prim.Native.Nat.{ℕ}
 use mathlib.Core.Path.{_∙_, ap}
 use borrow.Author.Needs.{needs}
 use Rattle.book.specs.meaning.GoodBook.{aroundRule, carrierGroupRule}
-use Rattle.book.specs.meaning.Guide.{guideOf}
-use Rattle.book.specs.meaning.Rule.{run}
+use Rattle.guide.specs.meaning.Guide.{guideOf}
+use Rattle.book.specs.method.Run.{run}
 use Rattle.book.proofs.Joining.{both, if-then, is}
 use Rattle.book.proofs.check.suits_carrier.Statement.{statement}
 use Rattle.book.proofs.check.suits_carrier.Tie as tie

@@ -4,8 +4,8 @@ use native.Mathlib.Omega.{arith}
 use mathlib.Core.Path.{_≡_, refl, sym, _∙_}
 use borrow.Author.Tests.{not-true, not-false}
 use Rattle.book.specs.method.Each.{ruleFor}
-use Rattle.book.specs.meaning.Guide.{guideOf}
-use Rattle.book.specs.meaning.Rule.{run, all}
+use Rattle.guide.specs.meaning.Guide.{guideOf}
+use Rattle.book.specs.method.Run.{run, all}
 use Rattle.book.proofs.Rules.{all-end, all-fail, all-on}
 use Rattle.book.proofs.every.every.Statement.{statement}
 use Rattle.book.proofs.every.every.Tie as tie

@@ -1,7 +1,7 @@
 -- `fields::field_is_good` meets its contract: it joins the tests as the rule joins its parts.
 use borrow.Author.Needs.{needs}
 use Rattle.book.specs.meaning.GoodBook.{fieldRule}
-use Rattle.book.specs.meaning.Words.{numberForm, textForm, withElementPresence}
+use Rattle.guide.specs.meaning.Words.{numberForm, textForm, withElementPresence}
 use Rattle.book.proofs.Joining.{at-least, at-most, both, either, in-range, is, lies-between}
 use Rattle.book.proofs.fields.field_is_good.Statement.{statement}
 use Rattle.book.proofs.fields.field_is_good.Tie as tie

@@ -1,7 +1,7 @@
 -- `header::counts_are_good` meets its contract: it joins the tests as the rule joins its parts.
 use borrow.Author.Needs.{needs}
 use Rattle.book.specs.meaning.GoodBook.{countsRule}
-use Rattle.book.specs.meaning.Guide.{guideOf}
+use Rattle.guide.specs.meaning.Guide.{guideOf}
 use Rattle.book.proofs.Joining.{at-least, at-most, both}
 use Rattle.book.proofs.header.counts_are_good.Statement.{statement}
 use Rattle.book.proofs.header.counts_are_good.Tie as tie

@@ -10,15 +10,15 @@ use Rattle.book.proofs.header.length_is_good.Tie as tie
 blocks-of-requires : tie.Need-blocks-of-requires
 blocks-of-requires c κs = search needs
 
-gives-requires : tie.Need-gives-requires
-gives-requires c κs = search needs
+says-requires : tie.Need-says-requires
+says-requires c κs = search needs
 
 returns : tie.Need-returns
 unfolding lengthRule
 returns c =
     let blocks-of = c .before .before .blocks-of in
     let args = c .before .before .before .before .args in
-    both (as-is (leb (length (args .book .now)) 65535)) (both (c .before .gives .ensures) (is (length (args .book .now)) (blocks-of .ensures .end)))
+    both (as-is (leb (length (args .book .now)) 65535)) (both (c .before .says .ensures) (is (length (args .book .now)) (blocks-of .ensures .end)))
 
 pub length-is-good-spec : {M : Type 1} → statement M
-length-is-good-spec = tie.close (tie.spec blocks-of-requires gives-requires returns)
+length-is-good-spec = tie.close (tie.spec blocks-of-requires says-requires returns)

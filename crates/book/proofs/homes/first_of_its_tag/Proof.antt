@@ -1,10 +1,10 @@
 -- `homes::first_of_its_tag` meets its contract. The invariant is what it promises: a line of another tag is passed over, since nothing
 -- is asked of the pair.
-use Prim.Native.Nat.{ℕ, _-_}
+use Prim.Native.Nat.{_-_}
 use native.Mathlib.Omega.{arith}
 use mathlib.Core.Path.{refl, sym, _∙_}
 use Rattle.book.specs.method.Each.{PassedTo}
-use Rattle.book.specs.meaning.Guide.{guideOf}
+use Rattle.guide.specs.meaning.Guide.{guideOf}
 use Rattle.book.proofs.Passing.{passed-on}
 use borrow.Author.Needs.{needs}
 use Rattle.book.proofs.homes.first_of_its_tag.Statement.{statement}

@@ -6,8 +6,8 @@ use mathlib.Core.Path.{_∙_, _≡_, ap₂, sym}
 use borrow.Author.Needs.{needs}
 use borrow.Author.Tests.{eq-eqb, ne-eqb}
 use Rattle.book.specs.meaning.GoodBook.{notAmongRule}
-use Rattle.book.specs.meaning.Guide.{guideOf}
-use Rattle.book.specs.meaning.Rule.{all, run}
+use Rattle.guide.specs.meaning.Guide.{guideOf}
+use Rattle.book.specs.method.Run.{all, run}
 use Rattle.book.proofs.Rules.{all-end, all-fail, all-on}
 use Rattle.book.proofs.Tables.{in-table}
 use Rattle.book.proofs.homes.has_no_code_of.Statement.{statement}

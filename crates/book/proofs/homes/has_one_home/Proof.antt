@@ -1,12 +1,12 @@
 -- `homes::has_one_home` meets its contract. The invariant: the rule holds of what is left exactly when it holds of the whole range.
 use Prim.Native.Nat.{ℕ, _+_, _-_, _≤_}
 use native.Mathlib.Omega.{arith}
-use mathlib.Core.Path.{_≡_, refl, sym, _∙_}
+use mathlib.Core.Path.{_≡_, sym, _∙_}
 use borrow.Author.Tests.{not-true, not-false}
 use Rattle.book.specs.method.Each.{homeRule}
 use Rattle.book.specs.meaning.GoodBook.{pairRule}
-use Rattle.book.specs.meaning.Guide.{guideOf}
-use Rattle.book.specs.meaning.Rule.{run, all}
+use Rattle.guide.specs.meaning.Guide.{guideOf}
+use Rattle.book.specs.method.Run.{run, all}
 use Rattle.book.proofs.Rules.{all-end, all-fail, all-on}
 use Rattle.book.proofs.Passing.{all-passed}
 use borrow.Author.Needs.{needs}

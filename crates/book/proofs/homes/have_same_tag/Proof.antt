@@ -1,7 +1,7 @@
 -- `homes::have_same_tag` meets its contract: it joins the tests as the rule joins its parts.
 use borrow.Author.Needs.{needs}
 use Rattle.book.specs.meaning.GoodBook.{sameTagRule}
-use Rattle.book.specs.meaning.Words.{segmentKind}
+use Rattle.guide.specs.meaning.Words.{segmentKind}
 use Rattle.book.proofs.Joining.{are-same, both, is}
 use Rattle.book.proofs.homes.have_same_tag.Statement.{statement}
 use Rattle.book.proofs.homes.have_same_tag.Tie as tie

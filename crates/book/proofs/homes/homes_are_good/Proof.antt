@@ -5,8 +5,8 @@ use mathlib.Core.Path.{_≡_, sym, ap, _∙_}
 use borrow.Author.Needs.{needs}
 use borrow.Author.Tests.{not-true, not-false}
 use Rattle.book.specs.method.Each.{homeRule}
-use Rattle.book.specs.meaning.Guide.{guideOf}
-use Rattle.book.specs.meaning.Rule.{run, all}
+use Rattle.guide.specs.meaning.Guide.{guideOf}
+use Rattle.book.specs.method.Run.{run, all}
 use Rattle.book.proofs.Rules.{all-end, all-fail, all-on}
 use Rattle.book.proofs.homes.homes_are_good.Statement.{statement}
 use Rattle.book.proofs.homes.homes_are_good.Tie as tie

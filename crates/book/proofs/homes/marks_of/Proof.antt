@@ -5,7 +5,7 @@ use native.Mathlib.Omega.{arith}
 use mathlib.Core.Path.{_≡_, refl}
 use lib.ListN.{length, length-set, replicate, getD-replicate}
 use borrow.Author.Needs.{needs}
-use Rattle.book.specs.meaning.Guide.{guideOf}
+use Rattle.guide.specs.meaning.Guide.{guideOf}
 use Rattle.book.proofs.Tables.{MarkedFrom, in-table, mark-none, mark-one, mark-all}
 use Rattle.book.proofs.homes.marks_of.Statement.{statement}
 use Rattle.book.proofs.homes.marks_of.Tie as tie

@@ -2,7 +2,7 @@
 use mathlib.Core.Bool.{_&&_}
 use mathlib.Core.Path.{ap₂}
 use borrow.Author.Needs.{needs}
-use Rattle.book.specs.meaning.GoodBook.{identifierRule}
+use Rattle.book.specs.method.Each.{identifierRule}
 use Rattle.book.proofs.identifiers.identifier_is_good.Statement.{statement}
 use Rattle.book.proofs.identifiers.identifier_is_good.Tie as tie
 

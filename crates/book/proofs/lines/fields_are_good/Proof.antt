@@ -1,7 +1,7 @@
 -- `lines::fields_are_good` meets its contract: it joins the tests as the rule joins its parts.
 use borrow.Author.Needs.{needs}
 use Rattle.book.specs.meaning.GoodBook.{fieldRangeRule, groupRule, maximumRule}
-use Rattle.book.specs.meaning.Words.{groupKind}
+use Rattle.guide.specs.meaning.Words.{groupKind}
 use Rattle.book.proofs.Joining.{both, if-then, in-range, is, lies-between}
 use Rattle.book.proofs.lines.fields_are_good.Statement.{statement}
 use Rattle.book.proofs.lines.fields_are_good.Tie as tie

@@ -1,7 +1,7 @@
 -- `lines::head_is_good` meets its contract: it joins the tests as the rules join their parts.
 use borrow.Author.Needs.{needs}
 use Rattle.book.specs.meaning.GoodBook.{depthRule, kindRule}
-use Rattle.book.specs.meaning.Words.{groupKind, segmentKind}
+use Rattle.guide.specs.meaning.Words.{groupKind, segmentKind}
 use Rattle.book.proofs.Joining.{at-most, both, either, is}
 use Rattle.book.proofs.lines.head_is_good.Statement.{statement}
 use Rattle.book.proofs.lines.head_is_good.Tie as tie

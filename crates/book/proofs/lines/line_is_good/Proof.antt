@@ -2,7 +2,7 @@
 use mathlib.Core.Bool.{_&&_}
 use mathlib.Core.Path.{ap₂}
 use borrow.Author.Needs.{needs}
-use Rattle.book.specs.meaning.GoodBook.{lineRule}
+use Rattle.book.specs.method.Each.{lineRule}
 use Rattle.book.proofs.lines.line_is_good.Statement.{statement}
 use Rattle.book.proofs.lines.line_is_good.Tie as tie
 

@@ -2,7 +2,7 @@
 use lib.Dec.{eqb}
 use borrow.Author.Needs.{needs}
 use Rattle.book.specs.meaning.GoodBook.{tagByteRule}
-use Rattle.book.specs.meaning.Words.{groupKind, segmentKind}
+use Rattle.guide.specs.meaning.Words.{groupKind, segmentKind}
 use Rattle.book.proofs.Joining.{as-is, both, either, if-then, is}
 use Rattle.book.proofs.lines.tag_byte_is_good.Statement.{statement}
 use Rattle.book.proofs.lines.tag_byte_is_good.Tie as tie

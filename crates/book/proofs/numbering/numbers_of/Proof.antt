@@ -6,7 +6,7 @@ use mathlib.Core.Path.{_≡_, refl}
 use lib.ListN.{length, getD, length-set}
 use borrow.Author.Count.{below-none}
 use borrow.Author.Needs.{needs}
-use Rattle.book.specs.meaning.Guide.{guideOf}
+use Rattle.guide.specs.meaning.Guide.{guideOf}
 use Rattle.book.specs.method.Tables.{wholeCode, FirstOf}
 use Rattle.book.proofs.Tables.{stored, first-agrees, low-small, numbered}
 use Rattle.book.proofs.numbering.numbers_of.Statement.{statement}

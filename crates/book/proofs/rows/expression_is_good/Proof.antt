@@ -3,9 +3,9 @@ use Prim.Native.Nat.{ℕ}
 use mathlib.Core.Path.{_∙_, ap, ap₂}
 use borrow.Author.Needs.{needs}
 use Rattle.book.specs.meaning.GoodBook.{expressionRule, literalRule, nextLiteralRule}
-use Rattle.book.specs.meaning.Guide.{guideOf}
-use Rattle.book.specs.meaning.Rule.{run}
-use Rattle.book.specs.meaning.Words.{allJoint, anyJoint}
+use Rattle.guide.specs.meaning.Guide.{guideOf}
+use Rattle.book.specs.method.Run.{run}
+use Rattle.guide.specs.meaning.Words.{allJoint, anyJoint}
 use Rattle.book.proofs.Joining.{both, either, if-then, is}
 use Rattle.book.proofs.rows.expression_is_good.Statement.{statement}
 use Rattle.book.proofs.rows.expression_is_good.Tie as tie

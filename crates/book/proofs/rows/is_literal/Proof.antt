@@ -3,7 +3,7 @@ use Prim.Native.Nat.{_%_, ℕ}
 use mathlib.Core.Path.{_∙_, ap}
 use borrow.Author.Needs.{needs}
 use Rattle.book.specs.meaning.GoodBook.{between}
-use Rattle.book.specs.meaning.Rule.{run}
+use Rattle.book.specs.method.Run.{run}
 use Rattle.book.proofs.rows.is_literal.Statement.{statement}
 use Rattle.book.proofs.rows.is_literal.Tie as tie
 

@@ -1,7 +1,7 @@
 -- `rows::mode_is_good` meets its contract: it joins the tests as the rule joins its parts.
 use borrow.Author.Needs.{needs}
 use Rattle.book.specs.meaning.GoodBook.{modeRule}
-use Rattle.book.specs.meaning.Words.{mayIfMode, mayMode, mustIfMode}
+use Rattle.guide.specs.meaning.Words.{mayIfMode, mayMode, mustIfMode}
 use Rattle.book.proofs.Joining.{at-least, at-most, both, if-then}
 use Rattle.book.proofs.rows.mode_is_good.Statement.{statement}
 use Rattle.book.proofs.rows.mode_is_good.Tie as tie

@@ -1,6 +1,7 @@
 -- `rows::row_is_good` meets its contract: it joins the tests as the rules join their parts.
 use borrow.Author.Needs.{needs}
-use Rattle.book.specs.meaning.GoodBook.{rowEndRule, rowRule}
+use Rattle.book.specs.meaning.GoodBook.{rowEndRule}
+use Rattle.book.specs.method.Each.{rowRule}
 use Rattle.book.proofs.Joining.{both, is}
 use Rattle.book.proofs.rows.row_is_good.Statement.{statement}
 use Rattle.book.proofs.rows.row_is_good.Tie as tie

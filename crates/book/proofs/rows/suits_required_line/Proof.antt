@@ -5,8 +5,8 @@ use native.Mathlib.Omega.{arith}
 use mathlib.Core.Path.{_∙_, ap}
 use borrow.Author.Needs.{needs}
 use Rattle.book.specs.meaning.GoodBook.{requiredRowRule}
-use Rattle.book.specs.meaning.Guide.{guideOf}
-use Rattle.book.specs.meaning.Words.{mustMode}
+use Rattle.guide.specs.meaning.Guide.{guideOf}
+use Rattle.guide.specs.meaning.Words.{mustMode}
 use Rattle.book.proofs.Joining.{if-then, is}
 use Rattle.book.proofs.rows.suits_required_line.Statement.{statement}
 use Rattle.book.proofs.rows.suits_required_line.Tie as tie

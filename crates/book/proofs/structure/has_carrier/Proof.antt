@@ -3,9 +3,9 @@ use Prim.Native.Nat.{ℕ}
 use mathlib.Core.Path.{_∙_, ap, ap₂}
 use borrow.Author.Needs.{needs}
 use Rattle.book.specs.meaning.GoodBook.{between, carrierRule}
-use Rattle.book.specs.meaning.Guide.{guideOf}
-use Rattle.book.specs.meaning.Rule.{run}
-use Rattle.book.specs.meaning.Words.{segmentKind}
+use Rattle.guide.specs.meaning.Guide.{guideOf}
+use Rattle.book.specs.method.Run.{run}
+use Rattle.guide.specs.meaning.Words.{segmentKind}
 use Rattle.book.proofs.Joining.{both, is}
 use Rattle.book.proofs.structure.has_carrier.Statement.{statement}
 use Rattle.book.proofs.structure.has_carrier.Tie as tie

@@ -4,8 +4,8 @@ use mathlib.Core.Path.{_∙_, ap}
 use borrow.Author.Needs.{needs}
 use Rattle.reading.specs.meaning.Tag.{UNT, tagNumber}
 use Rattle.book.specs.meaning.GoodBook.{frameRule, framesRule}
-use Rattle.book.specs.meaning.Guide.{guideOf}
-use Rattle.book.specs.meaning.Rule.{run}
+use Rattle.guide.specs.meaning.Guide.{guideOf}
+use Rattle.book.specs.method.Run.{run}
 use Rattle.book.proofs.Joining.{both}
 use Rattle.book.proofs.structure.has_frames.Statement.{statement}
 use Rattle.book.proofs.structure.has_frames.Tie as tie

@@ -3,7 +3,7 @@ use Prim.Native.Nat.{_+_, ℕ}
 use mathlib.Core.Path.{ap}
 use borrow.Author.Needs.{needs}
 use Rattle.book.specs.meaning.GoodBook.{triggerRule}
-use Rattle.book.specs.meaning.Words.{groupKind, segmentKind}
+use Rattle.guide.specs.meaning.Words.{groupKind, segmentKind}
 use Rattle.book.proofs.Joining.{are-same, at-least, both, if-then, is}
 use Rattle.book.proofs.structure.has_trigger.Statement.{statement}
 use Rattle.book.proofs.structure.has_trigger.Tie as tie

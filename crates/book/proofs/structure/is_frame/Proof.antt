@@ -1,7 +1,7 @@
 -- `structure::is_frame` meets its contract: it joins the tests as the rule joins its parts.
 use borrow.Author.Needs.{needs}
 use Rattle.book.specs.meaning.GoodBook.{frameRule}
-use Rattle.book.specs.meaning.Words.{segmentKind}
+use Rattle.guide.specs.meaning.Words.{segmentKind}
 use Rattle.book.proofs.Joining.{both, is}
 use Rattle.book.proofs.structure.is_frame.Statement.{statement}
 use Rattle.book.proofs.structure.is_frame.Tie as tie

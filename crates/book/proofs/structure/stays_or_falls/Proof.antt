@@ -2,7 +2,7 @@
 use Prim.Native.Nat.{_+_}
 use borrow.Author.Needs.{needs}
 use Rattle.book.specs.meaning.GoodBook.{fallRule}
-use Rattle.book.specs.meaning.Words.{segmentKind}
+use Rattle.guide.specs.meaning.Words.{segmentKind}
 use Rattle.book.proofs.Joining.{at-least, both, if-then, in-order, is}
 use Rattle.book.proofs.structure.stays_or_falls.Statement.{statement}
 use Rattle.book.proofs.structure.stays_or_falls.Tie as tie

@@ -1,6 +1,6 @@
 -- `element::names_next` meets its contract, by the first of the fields that are left.
 use borrow.Author.Needs.{needs}
-use Rattle.book.specs.meaning.Guide.{guideOf}
+use Rattle.guide.specs.meaning.Guide.{guideOf}
 use Rattle.fields.proofs.Stepping.{names-out, names-other, names-by}
 use Rattle.fields.proofs.element.names_next.Statement.{statement}
 use Rattle.fields.proofs.element.names_next.Tie as tie

@@ -3,7 +3,7 @@ use Prim.Native.Nat.{_-_, _≤_}
 use native.Mathlib.Omega.{arith}
 use mathlib.Core.Path.{_≡_, refl, sym, _∙_}
 use borrow.Author.Needs.{needs}
-use Rattle.book.specs.meaning.Guide.{guideOf}
+use Rattle.guide.specs.meaning.Guide.{guideOf}
 use Rattle.fields.specs.method.Testing.{testAbsent}
 use Rattle.fields.specs.method.Kept.{fieldsFrom}
 use Rattle.fields.proofs.Stepping.{absent-out, absent-other, absent-missing, absent-on}

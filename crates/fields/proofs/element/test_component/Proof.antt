@@ -2,7 +2,7 @@
 use native.Mathlib.Omega.{arith}
 use mathlib.Core.Path.{sym, _∙_}
 use borrow.Author.Needs.{needs}
-use Rattle.book.specs.meaning.Guide.{guideOf}
+use Rattle.guide.specs.meaning.Guide.{guideOf}
 use Rattle.fields.proofs.Stepping.{names-some, unnamed-full, unnamed-empty, named-broken, named-kept}
 use Rattle.fields.proofs.element.test_component.Statement.{statement}
 use Rattle.fields.proofs.element.test_component.Tie as tie

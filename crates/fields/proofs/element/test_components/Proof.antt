@@ -5,7 +5,7 @@ use mathlib.Core.Path.{sym, _∙_}
 use lib.ListN.{length}
 use borrow.Author.Needs.{needs}
 use borrow.Author.Tests.{not-true, not-false}
-use Rattle.book.specs.meaning.Guide.{guideOf}
+use Rattle.guide.specs.meaning.Guide.{guideOf}
 use Rattle.fields.proofs.Stepping.{Going, going-begin, going-broken, going-inside, going-on, going-closed}
 use Rattle.fields.proofs.element.test_components.Statement.{statement}
 use Rattle.fields.proofs.element.test_components.Tie as tie

@@ -1,6 +1,6 @@
 -- `element::test_element` meets its contract: its components, then the fields beyond them.
 use borrow.Author.Needs.{needs}
-use Rattle.book.specs.meaning.Guide.{guideOf}
+use Rattle.guide.specs.meaning.Guide.{guideOf}
 use Rattle.fields.proofs.Stepping.{element-few, element-broken, element-missing, element-kept}
 use Rattle.fields.proofs.element.test_element.Statement.{statement}
 use Rattle.fields.proofs.element.test_element.Tie as tie

@@ -5,7 +5,7 @@ use mathlib.Core.Path.{refl, sym, _∙_}
 use lib.ListN.{length}
 use borrow.Author.Needs.{needs}
 use borrow.Author.Tests.{not-true, not-false}
-use Rattle.book.specs.meaning.Guide.{guideOf}
+use Rattle.guide.specs.meaning.Guide.{guideOf}
 use Rattle.fields.proofs.Stepping.{Passing, passing-begin, passing-inside, passing-broken, passing-later, passing-on, passing-done}
 use Rattle.fields.proofs.fault.find_fault.Statement.{statement}
 use Rattle.fields.proofs.fault.find_fault.Tie as tie

@@ -1,6 +1,6 @@
 -- `field::fits` meets its contract, by the form.
 use borrow.Author.Needs.{needs}
-use Rattle.book.specs.meaning.Guide.{guideOf}
+use Rattle.guide.specs.meaning.Guide.{guideOf}
 use Rattle.fields.proofs.Fitting.{by-number, by-text}
 use Rattle.fields.proofs.field.fits.Statement.{statement}
 use Rattle.fields.proofs.field.fits.Tie as tie

@@ -2,7 +2,7 @@
 use mathlib.Core.Path.{sym, _∙_}
 use borrow.Author.Needs.{needs}
 use borrow.Author.Tests.{not-true, not-false}
-use Rattle.book.specs.meaning.Guide.{guideOf}
+use Rattle.guide.specs.meaning.Guide.{guideOf}
 use Rattle.fields.proofs.Fitting.{no-number, number-long, number-short}
 use Rattle.fields.proofs.field.fits_number.Statement.{statement}
 use Rattle.fields.proofs.field.fits_number.Tie as tie

@@ -1,6 +1,6 @@
 -- `field::fits_text` meets its contract: the bytes that are no releases are as many as the value has.
 use borrow.Author.Needs.{needs}
-use Rattle.book.specs.meaning.Guide.{guideOf}
+use Rattle.guide.specs.meaning.Guide.{guideOf}
 use Rattle.fields.proofs.Fitting.{text-long, text-short}
 use Rattle.fields.proofs.field.fits_text.Statement.{statement}
 use Rattle.fields.proofs.field.fits_text.Tie as tie

@@ -1,6 +1,6 @@
 -- `field::has_code` meets its contract, by the count of codes.
 use borrow.Author.Needs.{needs}
-use Rattle.book.specs.meaning.Guide.{guideOf}
+use Rattle.guide.specs.meaning.Guide.{guideOf}
 use Rattle.fields.proofs.Fitting.{any-value, some-value}
 use Rattle.fields.proofs.field.has_code.Statement.{statement}
 use Rattle.fields.proofs.field.has_code.Tie as tie

@@ -1,6 +1,6 @@
 -- `field::is_broken` meets its contract: empty, or not to be there, or unfit.
 use borrow.Author.Needs.{needs}
-use Rattle.book.specs.meaning.Guide.{guideOf}
+use Rattle.guide.specs.meaning.Guide.{guideOf}
 use Rattle.fields.proofs.Fitting.{broken-empty, broken-zero, broken-unfit}
 use Rattle.fields.proofs.field.is_broken.Statement.{statement}
 use Rattle.fields.proofs.field.is_broken.Tie as tie

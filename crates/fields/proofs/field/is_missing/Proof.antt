@@ -1,6 +1,6 @@
 -- `field::is_missing` meets its contract, by the presence.
 use borrow.Author.Needs.{needs}
-use Rattle.book.specs.meaning.Guide.{guideOf}
+use Rattle.guide.specs.meaning.Guide.{guideOf}
 use Rattle.fields.proofs.Fitting.{missing-one, missing-three, missing-not}
 use Rattle.fields.proofs.field.is_missing.Statement.{statement}
 use Rattle.fields.proofs.field.is_missing.Tie as tie

@@ -1,6 +1,6 @@
 -- `field::is_short` meets its contract: there are no more figures than bytes.
 use borrow.Author.Needs.{needs}
-use Rattle.book.specs.meaning.Guide.{guideOf}
+use Rattle.guide.specs.meaning.Guide.{guideOf}
 use Rattle.fields.proofs.Fitting.{short-number, counted-number}
 use Rattle.fields.proofs.field.is_short.Statement.{statement}
 use Rattle.fields.proofs.field.is_short.Tie as tie

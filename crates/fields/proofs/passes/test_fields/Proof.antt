@@ -2,7 +2,7 @@
 use Prim.Native.Nat.{_-_}
 use native.Mathlib.Omega.{arith}
 use borrow.Author.Needs.{needs}
-use Rattle.book.specs.meaning.Guide.{guideOf}
+use Rattle.guide.specs.meaning.Guide.{guideOf}
 use Rattle.fields.proofs.Segments.{Testing, testing-begin, testing-starts, testing-homes, testing-done, testing-found, testing-on}
 use Rattle.fields.proofs.passes.test_fields.Statement.{statement}
 use Rattle.fields.proofs.passes.test_fields.Tie as tie

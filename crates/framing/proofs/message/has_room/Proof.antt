@@ -1,5 +1,4 @@
 -- `message::has_room` meets its contract: the first table that is too short decides.
-use native.Mathlib.Omega.{arith}
 use borrow.Author.Tests.{lt-leb, le-leb}
 use Rattle.framing.proofs.message.has_room.Statement.{statement}
 use Rattle.framing.proofs.message.has_room.Tie as tie

@@ -1,7 +1,6 @@
 -- `message::leads_well` meets its contract.
 use native.Mathlib.Omega.{arith}
 use Rattle.framing.proofs.Decimals.{leads-nothing, leads-first}
-use borrow.Author.Needs.{needs}
 use Rattle.framing.proofs.message.leads_well.Statement.{statement}
 use Rattle.framing.proofs.message.leads_well.Tie as tie
 

@@ -1,6 +1,6 @@
 -- `message::message_stage` meets its contract. A bad place lies within the message, so it fits.
 use native.Mathlib.Omega.{arith}
-use mathlib.Core.Path.{sym, ap, _∙_}
+use mathlib.Core.Path.{sym, _∙_}
 use borrow.Author.Tests.{not-true, not-false}
 use Rattle.framing.proofs.Frames.{survey-bad, survey-good}
 use Rattle.framing.proofs.Messages.{bad-within, sized-within, message-unsized, message-scanned}

@@ -1,6 +1,5 @@
 -- `survey::is_misplaced` meets its contract: the tags are the numbers of UNH and UNT.
 use Rattle.framing.proofs.Frames.{misplaced-by-unh, misplaced-by-unt}
-use mathlib.Core.Path.{sym, _∙_}
 use borrow.Author.Needs.{needs}
 use Rattle.framing.proofs.survey.is_misplaced.Statement.{statement}
 use Rattle.framing.proofs.survey.is_misplaced.Tie as tie

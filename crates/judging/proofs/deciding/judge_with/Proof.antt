@@ -1,5 +1,4 @@
 -- `deciding::judge_with` meets its contract: a refusal leaves the tables alone, and after it nothing is refused.
-use mathlib.Core.Path.{_∙_}
 use Rattle.judging.specs.meaning.Tables.{tables}
 use Rattle.judging.proofs.Decided.{decided-refused, decided-placed, within}
 use borrow.Author.Needs.{needs}

@@ -1,5 +1,4 @@
 -- `placed::entry_at` meets its contract.
-use native.Mathlib.Omega.{arith}
 use Rattle.judging.proofs.PlacedStages.{entry-past, entry-short, entry-within}
 use borrow.Author.Needs.{needs}
 use Rattle.judging.proofs.placed.entry_at.Statement.{statement}

@@ -2,7 +2,7 @@
 use native.Mathlib.Omega.{arith}
 use mathlib.Core.Path.{sym, ap, _∙_}
 use lib.ListN.{length, take}
-use Rattle.book.specs.meaning.Guide.{guideOf}
+use Rattle.guide.specs.meaning.Guide.{guideOf}
 use Rattle.rules.specs.method.Identifiers.{identified}
 use Rattle.fields.specs.declared.passes.FirstFault.{FirstFault}
 use Rattle.judging.specs.method.Table.{identifierIn, identifierVerdict}

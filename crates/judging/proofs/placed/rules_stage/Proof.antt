@@ -1,7 +1,7 @@
 -- `placed::rules_stage` meets its contract: the component that is looked up is the Prüfidentifikator.
 use mathlib.Core.Path.{_∙_}
 use lib.ListN.{take}
-use Rattle.book.specs.meaning.Guide.{guideOf}
+use Rattle.guide.specs.meaning.Guide.{guideOf}
 use Rattle.judging.proofs.PlacedStages.{foreign-found, known-found}
 use borrow.Author.Needs.{needs}
 use Rattle.judging.proofs.placed.rules_stage.Statement.{statement}

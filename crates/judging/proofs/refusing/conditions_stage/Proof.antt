@@ -2,7 +2,7 @@
 use mathlib.Core.Path.{_∙_}
 use mathlib.Core.Bool.{true, false}
 use borrow.Author.Tests.{not-true, not-false}
-use Rattle.book.specs.meaning.Guide.{guideOf}
+use Rattle.guide.specs.meaning.Guide.{guideOf}
 use Rattle.judging.proofs.Refusals.{conditions-many, conditions-known}
 use borrow.Author.Needs.{needs}
 use Rattle.judging.proofs.refusing.conditions_stage.Statement.{statement}

@@ -3,7 +3,7 @@ use Prim.Native.Nat.{_+_}
 use native.Mathlib.Omega.{arith}
 use mathlib.Core.Path.{_≡_, refl, sym, _∙_}
 use borrow.Author.Needs.{needs}
-use Rattle.book.specs.meaning.Guide.{guideOf}
+use Rattle.guide.specs.meaning.Guide.{guideOf}
 use Rattle.placing.specs.method.Fitting.{isAnyCode}
 use Rattle.placing.proofs.Finding.{any-end, any-here, any-on}
 use Rattle.placing.proofs.code.is_any_code.Statement.{statement}

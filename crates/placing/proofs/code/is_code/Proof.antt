@@ -4,7 +4,7 @@ use native.Mathlib.Omega.{arith}
 use mathlib.Core.Path.{_≡_, refl, sym, _∙_}
 use lib.ListN.{length, drop}
 use borrow.Author.Needs.{needs}
-use Rattle.book.specs.meaning.Guide.{guideOf}
+use Rattle.guide.specs.meaning.Guide.{guideOf}
 use Rattle.placing.specs.method.Fitting.{spells}
 use Rattle.placing.proofs.Finding.{spell-end, spell-differs, spell-on, code-other-length, code-spelt}
 use Rattle.placing.proofs.code.is_code.Statement.{statement}

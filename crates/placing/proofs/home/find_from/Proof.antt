@@ -4,7 +4,7 @@ use Prim.Native.Nat.{suc, _-_}
 use native.Mathlib.Omega.{arith}
 use mathlib.Core.Path.{_≡_, sym, refl, _∙_}
 use borrow.Author.Needs.{needs}
-use Rattle.book.specs.meaning.Guide.{guideOf}
+use Rattle.guide.specs.meaning.Guide.{guideOf}
 use Rattle.placing.specs.meaning.Fitting.{least}
 use Rattle.placing.specs.method.Fitting.{fitsAt}
 use Rattle.placing.specs.method.Kept.{Looked}

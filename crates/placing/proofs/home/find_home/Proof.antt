@@ -2,7 +2,7 @@
 use native.Mathlib.Omega.{arith}
 use mathlib.Core.Path.{_∙_}
 use borrow.Author.Needs.{needs}
-use Rattle.book.specs.meaning.Guide.{guideOf}
+use Rattle.guide.specs.meaning.Guide.{guideOf}
 use Rattle.placing.proofs.Finding.{end-within, home-past, home-first, home-here}
 use Rattle.placing.proofs.home.find_home.Statement.{statement}
 use Rattle.placing.proofs.home.find_home.Tie as tie

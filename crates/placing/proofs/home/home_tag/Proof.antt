@@ -1,6 +1,6 @@
 -- `home::home_tag` meets its contract: a group has no tag to compare, a segment line its own.
 use borrow.Author.Needs.{needs}
-use Rattle.book.specs.meaning.Guide.{guideOf}
+use Rattle.guide.specs.meaning.Guide.{guideOf}
 use Rattle.placing.proofs.Finding.{group-tag, line-tag}
 use Rattle.placing.proofs.home.home_tag.Statement.{statement}
 use Rattle.placing.proofs.home.home_tag.Tie as tie

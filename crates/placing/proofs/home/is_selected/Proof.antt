@@ -1,6 +1,6 @@
 -- `home::is_selected` meets its contract: without a selector every segment is; else the component that was looked up is compared.
 use borrow.Author.Needs.{needs}
-use Rattle.book.specs.meaning.Guide.{guideOf}
+use Rattle.guide.specs.meaning.Guide.{guideOf}
 use Rattle.placing.proofs.Finding.{no-selector, selected, lies-inside}
 use Rattle.placing.proofs.home.is_selected.Statement.{statement}
 use Rattle.placing.proofs.home.is_selected.Tie as tie

@@ -1,6 +1,6 @@
 -- `home::tabled_end` meets its contract: behind the last line, or where the table ends.
 use borrow.Author.Needs.{needs}
-use Rattle.book.specs.meaning.Guide.{guideOf}
+use Rattle.guide.specs.meaning.Guide.{guideOf}
 use Rattle.placing.proofs.Finding.{end-of-lines, end-of-table}
 use Rattle.placing.proofs.home.tabled_end.Statement.{statement}
 use Rattle.placing.proofs.home.tabled_end.Tie as tie

@@ -1,7 +1,7 @@
 -- `home::tag_of` meets its contract: from the table, or past it from the book.
 use native.Mathlib.Omega.{arith}
 use borrow.Author.Needs.{needs}
-use Rattle.book.specs.meaning.Guide.{guideOf}
+use Rattle.guide.specs.meaning.Guide.{guideOf}
 use Rattle.placing.proofs.Finding.{end-within}
 use Rattle.placing.proofs.home.tag_of.Statement.{statement}
 use Rattle.placing.proofs.home.tag_of.Tie as tie

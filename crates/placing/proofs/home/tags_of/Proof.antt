@@ -4,7 +4,7 @@ use native.Mathlib.Omega.{arith}
 use mathlib.Core.Path.{_≡_, refl, _∙_}
 use lib.ListN.{length, getD, length-set}
 use borrow.Author.Needs.{needs}
-use Rattle.book.specs.meaning.Guide.{guideOf}
+use Rattle.guide.specs.meaning.Guide.{guideOf}
 use Rattle.placing.specs.method.Kept.{homeTag}
 use Rattle.placing.proofs.Finding.{end-within, tabled-on}
 use Rattle.placing.proofs.home.tags_of.Statement.{statement}

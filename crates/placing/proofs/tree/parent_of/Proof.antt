@@ -1,7 +1,7 @@
 -- `tree::parent_of` meets its contract: past the eight depths there is none.
 use Prim.Native.Nat.{ℕ}
 use native.Mathlib.Omega.{arith}
-use mathlib.Core.Path.{sym, ap, _∙_}
+use mathlib.Core.Path.{sym, ap}
 use lib.ListN.{getD, List·getD-eq-default}
 use borrow.Author.Needs.{needs}
 use Rattle.placing.proofs.tree.parent_of.Statement.{statement}

@@ -1,5 +1,5 @@
 -- `walk::is_passed` meets its contract. The invariant: what is left is passed exactly when all is.
-use Prim.Native.Nat.{_+_, _-_}
+use Prim.Native.Nat.{_-_}
 use native.Mathlib.Omega.{arith}
 use mathlib.Core.Path.{_≡_, refl, sym, _∙_}
 use borrow.Author.Needs.{needs}

@@ -2,7 +2,6 @@
 use Prim.Native.Nat.{ℕ}
 use mathlib.Core.Path.{ap}
 use lib.Dec.{eqb}
-use borrow.Author.Tests.{eq-eqb}
 use borrow.Author.Needs.{needs}
 use Rattle.placing.specs.meaning.Plan.{planIn}
 use Rattle.placing.proofs.Loops.{wanted-at, wanted-not}

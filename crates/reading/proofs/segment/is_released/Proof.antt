@@ -1,5 +1,4 @@
 -- `segment::is_released` meets its contract.
-use mathlib.Core.Path.{sym}
 use borrow.Author.Tests.{lt-ltb, le-ltb}
 use borrow.Author.Needs.{needs}
 use Rattle.reading.proofs.segment.is_released.Statement.{statement}

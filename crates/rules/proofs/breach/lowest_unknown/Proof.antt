@@ -4,8 +4,8 @@ use Prim.Native.Nat.{ℕ, _-_, _≤_, _%_}
 use native.Mathlib.Omega.{arith}
 use mathlib.Core.Path.{_≡_, sym, ap, _∙_}
 use borrow.Author.Needs.{needs}
-use Rattle.book.specs.meaning.Guide.{guideOf}
-use Rattle.rules.specs.meaning.Conditions.{firstUnknown}
+use Rattle.guide.specs.meaning.Guide.{guideOf}
+use Rattle.rules.specs.method.FirstFound.{firstUnknown}
 use Rattle.rules.specs.meaning.Rows.{conditionsOf}
 use Rattle.rules.specs.method.Scanning.{rowNumbered}
 use Rattle.rules.proofs.Loops.{lowestFrom, lowest-all, lowest-end, lowest-unused, lowest-here, lowest-on, is-unknown, not-unknown}

@@ -4,7 +4,7 @@ use native.Mathlib.Omega.{arith}
 use mathlib.Core.Path.{_≡_, sym, _∙_}
 use lib.Dec.{eqb}
 use borrow.Author.Needs.{needs}
-use Rattle.book.specs.meaning.Guide.{guideOf}
+use Rattle.guide.specs.meaning.Guide.{guideOf}
 use Rattle.rules.specs.method.Scanning.{readRow, rowNumbered}
 use Rattle.rules.proofs.Loops.{readingFrom, reading-all, reading-end, reading-unused, reading-decided, reading-on, decided}
 use Rattle.rules.proofs.breach.read_row.Statement.{statement}

@@ -1,7 +1,7 @@
 -- `breach::weigh_row` meets its contract: from the two readings. Assumes nothing.
 use mathlib.Core.Path.{refl, _∙_}
-use Rattle.book.specs.meaning.Guide.{guideOf}
-use Rattle.rules.specs.meaning.Conditions.{firstUnknown}
+use Rattle.guide.specs.meaning.Guide.{guideOf}
+use Rattle.rules.specs.method.FirstFound.{firstUnknown}
 use Rattle.rules.specs.meaning.Rows.{conditionsOf}
 use Rattle.rules.specs.method.Scanning.{rowNumbered}
 use Rattle.rules.proofs.Watching.{always, sometimes, never, weighs}

@@ -3,7 +3,7 @@ use native.Mathlib.Omega.{arith}
 use mathlib.Core.Path.{sym, ap, _∙_}
 use lib.ListN.{take, length-take}
 use lib.Seq.{take-all}
-use Rattle.book.specs.meaning.Guide.{guideOf}
+use Rattle.guide.specs.meaning.Guide.{guideOf}
 use Rattle.rules.specs.method.Scanning.{scannedRow}
 use Rattle.rules.proofs.Passing.{rows-of-none, rows-of-some}
 use borrow.Author.Needs.{needs}

@@ -6,7 +6,7 @@ use mathlib.Core.Path.{_≡_, refl, sym, _∙_}
 use lib.ListN.{length}
 use borrow.Author.Needs.{needs}
 use borrow.Author.Tests.{not-true, not-false}
-use Rattle.book.specs.meaning.Guide.{guideOf}
+use Rattle.guide.specs.meaning.Guide.{guideOf}
 use Rattle.rules.specs.method.Scanning.{scannedFrom}
 use Rattle.rules.specs.declared.finding.Finding.the-variants.{Kept}
 use Rattle.rules.proofs.Passing.{foundFrom, foundBehind, rows-begin, line-begun, instance-kept, instance-not-kept, line-ends, rows-end}

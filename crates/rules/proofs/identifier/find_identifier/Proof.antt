@@ -4,7 +4,7 @@ use Prim.Native.Nat.{_-_, _≤_}
 use native.Mathlib.Omega.{arith}
 use mathlib.Core.Path.{_≡_, sym, _∙_}
 use borrow.Author.Needs.{needs}
-use Rattle.book.specs.meaning.Guide.{guideOf}
+use Rattle.guide.specs.meaning.Guide.{guideOf}
 use Rattle.rules.specs.method.Identifiers.{identifiedFrom, identified}
 use Rattle.rules.proofs.identifier.find_identifier.Statement.{statement}
 use Rattle.rules.proofs.identifier.find_identifier.Tie as tie

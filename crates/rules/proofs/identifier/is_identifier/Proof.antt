@@ -7,7 +7,7 @@ use native.Mathlib.Omega.{arith}
 use mathlib.Core.Path.{_≡_, sym, _∙_}
 use lib.ListN.{drop}
 use borrow.Author.Needs.{needs}
-use Rattle.book.specs.meaning.Guide.{guideOf}
+use Rattle.guide.specs.meaning.Guide.{guideOf}
 use Rattle.reading.specs.meaning.Component.{sameComponent}
 use Rattle.rules.specs.meaning.Identifiers.{identifierValue}
 use Rattle.rules.proofs.identifier.is_identifier.Statement.{statement}

@@ -1,5 +1,5 @@
 -- `watch::watch_line` meets its contract: from what its parts ensure. Assumes nothing.
-use Rattle.book.specs.meaning.Guide.{guideOf}
+use Rattle.guide.specs.meaning.Guide.{guideOf}
 use Rattle.rules.proofs.Watching.{watches}
 use borrow.Author.Needs.{needs}
 use Rattle.rules.proofs.watch.watch_line.Statement.{statement}

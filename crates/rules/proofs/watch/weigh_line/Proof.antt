@@ -1,5 +1,5 @@
 -- `watch::weigh_line` meets its contract: a required line is passed over, and the row of another is weighed. Assumes nothing.
-use Rattle.book.specs.meaning.Guide.{guideOf}
+use Rattle.guide.specs.meaning.Guide.{guideOf}
 use Rattle.rules.proofs.Watching.{passed-over, weighed-row}
 use borrow.Author.Needs.{needs}
 use Rattle.rules.proofs.watch.weigh_line.Statement.{statement}

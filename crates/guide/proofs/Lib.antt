@@ -1,0 +1,2 @@
+-- Laws of a book's layout.
+pub mod Places

@@ -1,0 +1,2 @@
+-- How the code holds it, tied to the meaning by its contracts.
+pub mod Sizes
