@@ -29,8 +29,15 @@ same-length c = search needs
 
 returns : tie.Need-returns
 returns c =
-    let args = c .before .before .before .before .before .before .before .before .before .before .before .before .before .before .before .before .before .before .before .before .before .before .before .before .before .args in
-    puts-fit (numbersOf (args .verdict)) (args .numbers .now) _ (_, c .before .before .before .before .before .before .before .before .before .before .before .before .before .before .before .before .before .before .before .before .before .before .put .ensures, (_, c .before .before .before .before .before .before .before .before .before .before .before .before .before .before .before .before .before .before .put2 .ensures, (_, c .before .before .before .before .before .before .before .before .before .before .before .before .before .before .put3 .ensures, (_, c .before .before .before .before .before .before .before .before .before .before .put4 .ensures, (_, c .before .before .before .before .before .before .put5 .ensures, (_, c .before .before .put6 .ensures, refl))))))
+    let six = c .before .before in
+    let five = six .before .before .before .before in
+    let four = five .before .before .before .before in
+    let three = four .before .before .before .before in
+    let two = three .before .before .before .before in
+    let one = two .before .before .before .before in
+    let args = one .before .before .before .args in
+    puts-fit (numbersOf (args .verdict)) (args .numbers .now) _
+    (_, one .put .ensures, (_, two .put2 .ensures, (_, three .put3 .ensures, (_, four .put4 .ensures, (_, five .put5 .ensures, (_, six .put6 .ensures, refl))))))
 
 pub put-verdict-spec : {M : Type 1} → statement M
 put-verdict-spec =
