@@ -5,6 +5,7 @@ mod book_k;
 
 use framing::Verdict;
 use libc::STDOUT_FILENO;
+use reading::service::Service;
 
 fn write(text: &[u8]) {
     io::write_all(STDOUT_FILENO, text);
@@ -32,6 +33,7 @@ fn judge_under_k(message: &[u8], condition: u8) -> Verdict {
     let mut homes: [u32; 8] = [0; 8];
     let mut parents: [u32; 8] = [0; 8];
     judging::judge(
+        Service::standard(),
         message,
         &book,
         &[condition],

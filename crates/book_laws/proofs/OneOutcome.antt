@@ -12,6 +12,7 @@ use Rattle.book.proofs.check_book.Reads as check-book
 use Rattle.guide.proofs.edition.edition_of.Reads as edition-of
 use Rattle.guide.proofs.blocks.blocks_of.Reads as blocks-of
 use Rattle.guide.proofs.head.number.Reads as number
+use Rattle.guide.proofs.code.is_any_code.Reads as is-any-code
 use Rattle.guide.proofs.layout.lines.Reads as lines
 use Rattle.guide.proofs.layout.codes.Reads as codes
 use Rattle.guide.proofs.layout.fields.Reads as fields
@@ -66,6 +67,9 @@ one-edition-of κs a r q x y m n = λ i. record { number = (m .number ∙ sym (n
 
 pub one-blocks-of : One blocks-of.Post
 one-blocks-of κs a r q x y m n = λ i. record { codes = (m .codes ∙ sym (n .codes)) i; fields = (m .fields ∙ sym (n .fields)) i; identifiers = (m .identifiers ∙ sym (n .identifiers)) i; rows = (m .rows ∙ sym (n .rows)) i; end = (m .end ∙ sym (n .end)) i }
+
+pub one-is-any-code : One is-any-code.Post
+one-is-any-code κs a r q x y m n = m ∙ sym n
 
 -- the accessors
 pub one-number : One number.Post

@@ -258,6 +258,25 @@ module _ (h : Handed) (l : Left) (p : Promised h l) where
                     (shown-is (knowing (d .1) h) (u .0) (given (knowing (d .1) h) (u .0) (u .1)) room (verdictOn (knowing (d .1) h)) .1 refl),
               ),
         );
+        fillings-differ = (
+          λ e. let d = demand-3 h .unsure (h .conditions) .0 (sym (g .number) ∙ e) in (
+            d .0,
+            d .1,
+            d .2,
+            d .3,
+            λ v a b. d .4 (demand-2 (knowing (d .0) h) .fault v .1 a ∙ sym (demand-2 (knowing (d .1) h) .fault v .1 b)),
+          ),
+          λ d. g .number
+              ∙ demand-3 h .unsure (h .conditions) .1 (
+                d .0,
+                d .1,
+                d .2,
+                d .3,
+                λ e.
+                    d .4 (verdictOn (knowing (d .1) h)) (demand-2 (knowing (d .0) h) .fault (verdictOn (knowing (d .1) h)) .0 e)
+                    (demand-2 (knowing (d .1) h) .fault (verdictOn (knowing (d .1) h)) .0 refl),
+              ),
+        );
         later = λ ds k q i n v a.
             let same : verdictOn (knowing ds h) ≡ verdictOn h = demand-3 h .later (h .conditions) ds i (λ e. n (g .number ∙ e)) in
             let there = given (knowing ds h) k q in (

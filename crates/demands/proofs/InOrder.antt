@@ -7,7 +7,7 @@ use lib.Dec.{eqb}
 use lib.ListN.{length}
 use Rattle.guide.specs.meaning.Guide.{guideOf}
 use Rattle.reading.specs.declared.service.Service.{Service}
-use Rattle.placing.specs.meaning.Plan.{planIn}
+use Rattle.guide.specs.meaning.Plan.{planIn}
 use Rattle.placing.specs.method.Passes.{homesFrom, tested}
 use Rattle.placing.specs.declared.passes.Placing.{Placing}
 use Rattle.placing.specs.declared.passes.Placing.the-variants.{Begins, NoHome, Stops}

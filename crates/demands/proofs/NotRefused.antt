@@ -12,7 +12,7 @@ use Rattle.reading.specs.meaning.Service.{GoodService}
 use Rattle.reading.specs.meaning.WellFormed.{WellFormed}
 use Rattle.reading.specs.declared.service.Service.{Service}
 use Rattle.reading_laws.proofs.FirstBad.{scan-accepts}
-use Rattle.placing.specs.meaning.Plan.{planIn}
+use Rattle.guide.specs.meaning.Plan.{planIn}
 use Rattle.placing.specs.meaning.Fitting.{homeOf}
 use Rattle.placing.specs.meaning.Placement.{Placed}
 use Rattle.placing.specs.meaning.Answers.{HaveHomes}

@@ -10,7 +10,10 @@ use Rattle.tracksaddle.proofs.tracksaddle_judge.Reads as exported
 
 -- of the arguments at exit, the lent tables are the last three
 pub one-judge : (κs : _) (a : _) (r q : _) (x y : _) → judge.Post κs a r x → judge.Post κs a q y
-    → (r ≡ q) × (x .1 .1 .1 .0 .now ≡ y .1 .1 .1 .0 .now) × (x .1 .1 .1 .1 .0 .now ≡ y .1 .1 .1 .1 .0 .now) × (x .1 .1 .1 .1 .1 .0 .now ≡ y .1 .1 .1 .1 .1 .0 .now)
+    → (r ≡ q)
+    × (x .1 .1 .1 .1 .0 .now ≡ y .1 .1 .1 .1 .0 .now)
+    × (x .1 .1 .1 .1 .1 .0 .now ≡ y .1 .1 .1 .1 .1 .0 .now)
+    × (x .1 .1 .1 .1 .1 .1 .0 .now ≡ y .1 .1 .1 .1 .1 .1 .0 .now)
 one-judge κs a r q x y m n =
     let same = m .1 ∙ sym (n .1) in
     (m .0 ∙ sym (n .0), ap (λ (t : Tables). t .starts) same, ap (λ (t : Tables). t .homes) same, ap (λ (t : Tables). t .parents) same)

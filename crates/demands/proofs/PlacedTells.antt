@@ -16,7 +16,7 @@ use Rattle.reading.specs.meaning.WellFormed.{WellFormed}
 use Rattle.reading.specs.declared.service.Service.{Service}
 use Rattle.reading_laws.proofs.Values.{part-is-value}
 use Rattle.reading_laws.proofs.OneReading.{IsWord, raw-is-value, word-written}
-use Rattle.placing.specs.meaning.Plan.{Plan, planIn}
+use Rattle.guide.specs.meaning.Plan.{Plan, planIn}
 use Rattle.placing.specs.meaning.Fitting.{homeOf}
 use Rattle.placing.specs.meaning.Placement.{Placed, parentsOf}
 use Rattle.placing.specs.meaning.Answers.{HaveHomes}

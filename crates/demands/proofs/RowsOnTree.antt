@@ -16,7 +16,7 @@ use Rattle.reading.specs.meaning.WellFormed.{WellFormed}
 use Rattle.reading.specs.method.Machine.{scanned}
 use Rattle.reading.specs.declared.service.Service.{Service}
 use Rattle.reading_laws.proofs.Rendering.{segments-front, segments-append}
-use Rattle.placing.specs.meaning.Plan.{planIn}
+use Rattle.guide.specs.meaning.Plan.{planIn}
 use Rattle.placing.specs.meaning.Fitting.{homeOf}
 use Rattle.placing.specs.meaning.Placement.{Placed, parentsOf}
 use Rattle.reading.specs.meaning.Starts.{startsIn, startsOf}

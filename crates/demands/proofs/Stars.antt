@@ -12,11 +12,12 @@ use Rattle.reading.specs.meaning.Service.{standard, isData, isTagByte}
 use Rattle.reading.specs.meaning.Component.{valueFrom, sameComponent}
 use Rattle.reading.specs.method.Machine.{kindOf, scanOn, endOn, isHere, seekOn}
 use Rattle.placing.specs.meaning.Fitting.{least}
-use Rattle.placing.specs.method.Fitting.{spells, isCode, isAnyCode, isSelectedAt, fitsAt}
-use Rattle.placing.specs.meaning.Plan.{target}
+use Rattle.placing.specs.method.Fitting.{isSelectedAt, fitsAt}
+use Rattle.guide.specs.method.Codes.{spells, isCode, isAnyCode}
+use Rattle.guide.specs.meaning.Plan.{target}
 use Rattle.placing.specs.method.Walking.{isPlaceable, isClear, isPassed, canCloseAll, admits, stacked, advanced, walked}
 use Rattle.placing.specs.method.Tree.{openedBy, noted}
-use Rattle.placing.specs.meaning.Tree.{climb}
+use Rattle.guide.specs.meaning.Tree.{climb}
 use Rattle.reading.specs.method.Starts.{startsFrom}
 use Rattle.placing.specs.method.Passes.{testedFrom}
 use Rattle.reading.specs.meaning.Digit.{isDigit}

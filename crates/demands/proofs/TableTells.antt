@@ -17,7 +17,7 @@ use Rattle.reading.specs.meaning.Message.{Segment, Message, ValidTag, ValidSegm
 use Rattle.reading.specs.meaning.WellFormed.{WellFormed, Means}
 use Rattle.reading.specs.meaning.Tag.{tagNumber, UNT}
 use Rattle.reading.specs.declared.service.Service.{Service}
-use Rattle.placing.specs.meaning.Plan.{planIn}
+use Rattle.guide.specs.meaning.Plan.{planIn}
 use Rattle.placing.specs.meaning.Fitting.{fits, hasTag, homeOf}
 use Rattle.placing.specs.meaning.Placement.{Placed, parentsOf}
 use Rattle.placing.specs.meaning.Answers.{HaveHomes}

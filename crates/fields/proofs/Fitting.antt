@@ -8,7 +8,7 @@ use lib.Dec.{eqb, leb}
 use lib.ListN.{length}
 use borrow.Author.Tests.{eq-eqb, ne-eqb, le-leb, lt-leb}
 use Rattle.guide.specs.meaning.Guide.{Guide}
-use Rattle.placing.specs.method.Fitting.{isAnyCode}
+use Rattle.guide.specs.method.Codes.{isAnyCode}
 use Rattle.reading.specs.meaning.Component.{valueOf}
 use Rattle.reading.specs.declared.service.Service.{Service}
 use Rattle.fields.specs.meaning.Number.{minus, figures}

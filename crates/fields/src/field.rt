@@ -6,12 +6,12 @@ ghost use Rattle.fields.specs.meaning.Number.{figures};
 ghost use Rattle.fields.specs.method.Testing.{hasCode, fitsText, fitsNumber, fits, isMissing, isBroken};
 ghost use Rattle.fields.specs.method.Kept.{Counts};
 use crate::number;
+use guide::code;
 use guide::layout;
 use guide::words::FORM_NUMBER;
 use guide::words::PRESENCE_EMPTY;
 use guide::words::PRESENCE_MUST;
 use guide::words::PRESENCE_WITH_ELEMENT;
-use placing::code;
 use reading::service::Service;
 
 fn has_code(book: &[u8], field: u32, part: &[u8]) -> bool

@@ -9,7 +9,7 @@ use Rattle.guide.specs.meaning.Guide.{guideOf}
 use Rattle.guide.specs.meaning.View.{lineOf}
 use Rattle.book_laws.proofs.Bytes.{k, second}
 use Rattle.book_laws.proofs.Inhabited.{k-is-good}
-use Rattle.placing.specs.method.Fitting.{spells, isCode, isAnyCode}
+use Rattle.guide.specs.method.Codes.{spells, isCode, isAnyCode}
 use Rattle.reading.specs.meaning.Service.{standard, isData, isTagByte, mustRelease}
 use Rattle.reading.specs.meaning.Message.{Segment, writeComponent, writeMore, writeElements}
 use Rattle.reading.specs.meaning.WellFormed.{SegmentAt}

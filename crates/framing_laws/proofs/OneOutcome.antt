@@ -3,15 +3,10 @@
 use mathlib.Core.Path.{_≡_, sym, _∙_}
 use Rattle.reading_laws.proofs.OneOutcome.{One}
 use Rattle.framing.proofs.verdict.Verdict.answer.Reads as answer
-use Rattle.framing.proofs.table.put.Reads as put
 use Rattle.framing.proofs.message_stage.Reads as message-stage
 
 pub one-answer : One answer.Post
 one-answer κs a r q x y m n = m ∙ sym n
-
--- the table is the first argument
-pub one-put : (κs : _) (a : _) (r q : _) (x y : _) → put.Post κs a r x → put.Post κs a q y → x .0 .now ≡ y .0 .now
-one-put κs a r q x y m n = m ∙ sym n
 
 pub one-message-stage : One message-stage.Post
 one-message-stage κs a r q x y m n = m ∙ sym n

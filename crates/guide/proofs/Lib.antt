@@ -1,2 +1,3 @@
--- Laws of a book's layout.
+-- How the code runs through the definitions: where records begin, then codes one by one.
 pub mod Places
+pub mod Codes

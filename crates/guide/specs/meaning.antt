@@ -6,3 +6,5 @@ pub mod Edition
 pub mod Blocks
 pub mod Guide
 pub mod View
+pub mod Plan
+pub mod Tree

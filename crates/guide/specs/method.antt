@@ -1,2 +1,3 @@
 -- How the code holds it, tied to the meaning by its contracts.
 pub mod Sizes
+pub mod Codes

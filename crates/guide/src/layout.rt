@@ -8,7 +8,6 @@ ghost use Rattle.guide.specs.meaning.Guide.{guideOf, lineAt, codeAt, fie
 use crate::edition;
 use crate::head;
 use crate::numbers;
-use reading::bytes;
 
 // ---- where a record begins
 
@@ -59,7 +58,7 @@ fn line_byte_at(book: &[u8], line: u32, offset: usize) -> u32
     requires { ⌜ offset < 2 ^ 34 ⌝ }
     ensures { λ r. ⌜ (r ≡ byteAt (now (book .entry)) (lineAt (now (book .entry)) line + offset)) × (r < 256) ⌝ }
 {
-    bytes::byte_at(book, line_at(book, line) + offset)
+    slices::byte_at(book, line_at(book, line) + offset)
 }
 
 fn line_u16_at(book: &[u8], line: u32, offset: usize) -> u32
@@ -73,7 +72,7 @@ fn code_byte_at(book: &[u8], code: u32, offset: usize) -> u32
     requires { ⌜ offset < 2 ^ 34 ⌝ }
     ensures { λ r. ⌜ (r ≡ byteAt (now (book .entry)) (codeAt (now (book .entry)) code + offset)) × (r < 256) ⌝ }
 {
-    bytes::byte_at(book, code_at(book, code) + offset)
+    slices::byte_at(book, code_at(book, code) + offset)
 }
 
 fn code_u32_at(book: &[u8], code: u32, offset: usize) -> u32
@@ -87,7 +86,7 @@ fn field_byte_at(book: &[u8], field: u32, offset: usize) -> u32
     requires { ⌜ offset < 2 ^ 34 ⌝ }
     ensures { λ r. ⌜ (r ≡ byteAt (now (book .entry)) (fieldAt (now (book .entry)) field + offset)) × (r < 256) ⌝ }
 {
-    bytes::byte_at(book, field_at(book, field) + offset)
+    slices::byte_at(book, field_at(book, field) + offset)
 }
 
 fn field_u16_at(book: &[u8], field: u32, offset: usize) -> u32
@@ -101,7 +100,7 @@ fn row_byte_at(book: &[u8], row: u32, offset: usize) -> u32
     requires { ⌜ offset < 2 ^ 34 ⌝ }
     ensures { λ r. ⌜ (r ≡ byteAt (now (book .entry)) (rowAt (now (book .entry)) row + offset)) × (r < 256) ⌝ }
 {
-    bytes::byte_at(book, row_at(book, row) + offset)
+    slices::byte_at(book, row_at(book, row) + offset)
 }
 
 // ---- how many there are
@@ -298,7 +297,7 @@ pub fn field_end(book: &[u8], field: u32) -> u32
 pub fn identifier_byte(book: &[u8], identifier: u32, byte: u32) -> u32
     ensures { λ r. ⌜ (r ≡ guideOf (now (book .entry)) .identifierByte identifier byte) × (r < 256) ⌝ }
 {
-    bytes::byte_at(book, identifier_at(book, identifier) + byte as usize)
+    slices::byte_at(book, identifier_at(book, identifier) + byte as usize)
 }
 
 pub fn mode(book: &[u8], row: u32) -> u32

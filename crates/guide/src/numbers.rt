@@ -1,8 +1,7 @@
-// Little-endian numbers of two and of four bytes, 0 past the end; one byte alone is reading's byte_at.
+// Little-endian numbers of two and of four bytes, 0 past the end; one byte alone is byte_at of slices.
 ghost use mathlib.Core.Path.{_≡_};
 ghost use Prim.Native.Nat.{_+_, _*_, _≤_, _<_, _^_};
 ghost use Rattle.guide.specs.meaning.Numbers.{u16At, u32At};
-use reading::bytes;
 
 // One test where both bytes are there, as they are in a good book: nothing is read so often.
 pub fn u16_at(book: &[u8], at: usize) -> u32
@@ -12,7 +11,7 @@ pub fn u16_at(book: &[u8], at: usize) -> u32
     if at + 1 < book.len() {
         return book[at] as u32 + 256 * (book[at + 1] as u32);
     }
-    bytes::byte_at(book, at)
+    slices::byte_at(book, at)
 }
 
 pub fn u32_at(book: &[u8], at: usize) -> u32

@@ -22,7 +22,7 @@ use Rattle.framing.specs.declared.verdict.Verdict.{Verdict}
 use Rattle.framing.proofs.Messages.{sized-within}
 use Rattle.framing.proofs.Passing.{fault, first-clear, first-passed, room-exactly, ClearMessage, clear-message, Low, low-cond, low-or, low-message}
 use Rattle.guide.specs.meaning.Guide.{guideOf}
-use Rattle.placing.specs.meaning.Plan.{planIn}
+use Rattle.guide.specs.meaning.Plan.{planIn}
 use Rattle.judging.specs.meaning.Answers.{placingVerdict, fieldsVerdict, rowsVerdict}
 use Rattle.placing.specs.method.Fitting.{homeAt}
 use Rattle.placing.specs.method.Passes.{homesFrom, tested, startsTable, homesTable, parentsTable}

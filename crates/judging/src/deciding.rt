@@ -1,6 +1,5 @@
 // The judge: one message, one guide book, and what is known of the conditions.
 ghost use mathlib.Core.Path.{_≡_};
-ghost use Rattle.reading.specs.meaning.Service.{standard};
 ghost use Rattle.judging.specs.method.Table.{judged, tablesAfter};
 ghost use Rattle.judging.specs.meaning.Tables.{tables, roomOf};
 use crate::placed;
@@ -9,8 +8,9 @@ use framing::Room;
 use framing::Verdict;
 use reading::service::Service;
 
-// Under a file's service characters. The refusals come first, since nothing that is written could be restored.
-fn judge_with(
+// The verdict on a message under given service characters, and its tree in the lent tables. Any bytes will do; tables that are too short
+// are refused. The refusals come first, since nothing that is written could be restored.
+pub fn judge(
     service: Service,
     message: &[u8],
     book: &[u8],
@@ -35,28 +35,4 @@ fn judge_with(
     let segments = refusal.place.at;
     placing::write_tree(service, message, segments, book, starts, homes, parents);
     placed::placed_stage(service, message, segments, book, conditions, starts, homes)
-}
-
-// The verdict on a message, and its tree in the lent tables. Any bytes will do; tables that are too short are refused.
-pub fn judge(
-    message: &[u8],
-    book: &[u8],
-    conditions: &[u8],
-    starts: &mut [u32],
-    homes: &mut [u32],
-    parents: &mut [u32],
-) -> Verdict
-    ensures { λ r. ⌜ (r ≡ judged standard (now (message .entry)) (now (book .entry)) (now (conditions .entry)) (roomOf (tables (now (starts .entry)) (now (homes .entry)) (now (parents .entry)))))
-        × (tables (now (starts .exit)) (now (homes .exit)) (now (parents .exit))
-        ≡ tablesAfter standard (now (message .entry)) (now (book .entry)) (now (conditions .entry)) (tables (now (starts .entry)) (now (homes .entry)) (now (parents .entry)))) ⌝ }
-{
-    judge_with(
-        Service::standard(),
-        message,
-        book,
-        conditions,
-        starts,
-        homes,
-        parents,
-    )
 }

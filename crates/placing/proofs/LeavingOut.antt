@@ -5,7 +5,7 @@ use mathlib.Core.Path.{_≡_, refl, sym, ap, subst}
 use mathlib.Core.Bool.{Bool, true, false, cond, not, _&&_}
 use lib.Dec.{eqb, ltb}
 use borrow.Author.Tests.{eq-eqb, eqb-true, eqb-false, ltb-true, ltb-false, le-ltb}
-use Rattle.placing.specs.meaning.Plan.{Plan}
+use Rattle.guide.specs.meaning.Plan.{Plan}
 use Rattle.placing.specs.method.Walking.{isWanted, isClear, isPassed}
 use Rattle.reading.proofs.Booleans.{both, left, right, denied}
 

@@ -7,7 +7,7 @@ use mathlib.Core.Bool.{Bool, true, false, cond, not, _&&_}
 use lib.Dec.{ltb}
 use borrow.Author.Tests.{lt-ltb, le-ltb, eq-eqb, ne-eqb}
 use Rattle.reading.proofs.Starts.{none-left, one-less}
-use Rattle.placing.specs.meaning.Plan.{Plan}
+use Rattle.guide.specs.meaning.Plan.{Plan}
 use Rattle.placing.specs.method.Walking.{isWanted, isClear, isPassed}
 
 pub wanted-at : (b : Plan) (d x r : ℕ) (q : Bool) → r ≡ b .depth x → r ≡ d → q ≡ b .required x → q ≡ isWanted b d x

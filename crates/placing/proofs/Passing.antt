@@ -16,7 +16,7 @@ use Rattle.reading.specs.declared.span.Span.{Span}
 use Rattle.reading.specs.declared.cursor.Cursor.{Cursor}
 use Rattle.reading.specs.declared.cursor.Found.the-variants as found
 use Rattle.reading.proofs.Starts.{starts-found, no-starts, starts-end}
-use Rattle.placing.specs.meaning.Plan.{Plan, planIn}
+use Rattle.guide.specs.meaning.Plan.{Plan, planIn}
 use Rattle.placing.specs.method.Fitting.{homeAt}
 use Rattle.placing.specs.method.Walking.{start, walked, isAlive, StandsFor}
 use Rattle.placing.specs.method.Tree.{rootOnly, parentIn, openedBy, noted, notedParents}

@@ -13,7 +13,7 @@ use Rattle.placing.specs.declared.walk.Level.{Level}
 use Rattle.placing.specs.declared.walk.Walk.{Walk}
 use Rattle.placing.specs.declared.walk.Move.{Move}
 use Rattle.guide.specs.meaning.Guide.{guideOf, lineAt}
-use Rattle.placing.specs.meaning.Plan.{Plan, planIn, isTrigger, target}
+use Rattle.guide.specs.meaning.Plan.{Plan, planIn, isTrigger, target}
 use Rattle.placing.specs.method.Walking.{Ready, StandsFor, SegmentLine, WithinEight, Opens, made, admits, advanced, canClose, canCloseAll, canMove, entered, isAlive, isClear, isPassed, isPlaceable, level, openLines, raised, stacked, start, walked}
 use Rattle.placing.specs.method.Tree.{openedBy}
 

@@ -7,7 +7,7 @@ ghost use Rattle.guide.specs.meaning.Guide.{guideOf};
 ghost use Rattle.placing.specs.method.Fitting.{isSelectedAt, fitsAt, homeAt};
 ghost use Rattle.placing.specs.meaning.Fitting.{least};
 ghost use Rattle.placing.specs.method.Kept.{Looked, homeTag, tabledEnd, TagsOf, firstOfTag};
-use crate::code;
+use guide::code;
 use guide::layout;
 use guide::words::KIND_GROUP;
 use reading::lookup;

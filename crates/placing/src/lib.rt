@@ -1,6 +1,5 @@
 // Placing: which line of the guide book each segment of a message belongs to, and in which instance of which group.
-// 01, "Placing and judging", first paragraph; to be read in this order: code, home, walk, tree, passes.
-pub mod code;
+// 01, "Placing and judging", first paragraph; to be read in this order: home, walk, tree, passes.
 mod home;
 mod passes;
 mod tree;

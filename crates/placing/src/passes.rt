@@ -1,14 +1,13 @@
 // The two passes over a message. What refuses a message touches no table and nothing could be restored, so homes are found in a
 // test pass and again in the pass that writes.
 ghost use mathlib.Core.Path.{_≡_};
-ghost use Rattle.placing.specs.meaning.Plan.{planIn};
+ghost use Rattle.guide.specs.meaning.Plan.{planIn};
 ghost use Rattle.placing.specs.method.Passes.{homesFrom, firstStop, outcomeOf, tested, entry, startsTable, homesTable, parentsTable};
 use crate::home;
 use crate::tree;
 use crate::tree::Trail;
 use crate::walk;
 use crate::walk::Walk;
-use framing::table;
 use reading::cursor::Cursor;
 use reading::cursor::Found;
 use reading::service::Service;
@@ -116,9 +115,9 @@ pub fn write_tree(
             Found::Segment(_, next) => {
                 let home = home::find_home(service, message, at, book, &tags, end);
                 let entry = place as usize;
-                table::put(starts, entry, entry_of(at));
-                table::put(homes, entry, home);
-                table::put(parents, entry, tree::parent_of(book, trail, home));
+                slices::put(starts, entry, entry_of(at));
+                slices::put(homes, entry, home);
+                slices::put(parents, entry, tree::parent_of(book, trail, home));
                 place += 1;
                 trail = tree::open_instance(book, trail, home, place);
                 cursor = next;

@@ -2,7 +2,7 @@
 ghost use mathlib.Core.Path.{_≡_};
 ghost use Prim.Native.Nat.{_<_};
 ghost use lib.ListN.{length};
-ghost use Rattle.placing.specs.meaning.Plan.{planIn};
+ghost use Rattle.guide.specs.meaning.Plan.{planIn};
 ghost use Rattle.placing.specs.method.Tree.{rootOnly, parentIn, openedBy};
 use crate::walk;
 

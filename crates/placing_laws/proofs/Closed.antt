@@ -8,10 +8,10 @@ use mathlib.Core.Bool.{Bool, true, false, cond}
 use lib.Dec.{eqb, ltb}
 use lib.ListN.{length, length-append}
 use borrow.Author.Tests.{eq-eqb, ne-eqb, lt-ltb, le-ltb}
-use Rattle.placing.specs.meaning.Plan.{Plan, deep, opening, Of}
+use Rattle.guide.specs.meaning.Plan.{Plan, deep, opening, Of}
 use Rattle.placing_laws.proofs.Structured.{Structured}
 use Rattle.placing.specs.meaning.Placement.{Contents, nothing, segment, instance, homes, size, parents, Runs, Placed}
-use Rattle.placing.specs.meaning.Tree.{climb, owner}
+use Rattle.guide.specs.meaning.Tree.{climb, owner}
 use Rattle.placing.specs.method.ClosedTree.{lastOf, heldBy, closed, closedParents}
 use Rattle.placing.specs.method.Tree.{notedParents}
 use Rattle.placing_laws.proofs.Trees.{homes-append, homes-length, Same, it, other, same}

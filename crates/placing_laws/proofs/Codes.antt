@@ -22,7 +22,7 @@ use Rattle.reading.specs.declared.service.Service.{Service}
 use Rattle.reading.proofs.Comparing.{same-bytes-refl, same-bytes-true}
 use Rattle.reading_laws.proofs.OneReading.{IsWord, raw-is-value, word-written}
 use Rattle.placing.specs.meaning.Fitting.{isAmong}
-use Rattle.placing.specs.method.Fitting.{spells, isCode, isAnyCode}
+use Rattle.guide.specs.method.Codes.{spells, isCode, isAnyCode}
 use Rattle.reading.proofs.Booleans.{both, left, right, same-test}
 
 -- 01: "six bytes from A–Z, a–z, 0–9 and `.`": none of them is ever released

@@ -9,7 +9,7 @@ use mathlib.Core.Logic.{_↔_}
 use lib.Dec.{eqb, ltb}
 use borrow.Author.Tests.{eq-eqb, eqb-true, eqb-false, ltb-true, ltb-false}
 use Rattle.placing.specs.declared.walk.Level.{Level}
-use Rattle.placing.specs.meaning.Plan.{Plan, deep, opening, Of}
+use Rattle.guide.specs.meaning.Plan.{Plan, deep, opening, Of}
 use Rattle.placing_laws.proofs.Structured.{Structured}
 use Rattle.placing.specs.meaning.Placement.{Contents, nothing, segment, instance, homes, count, Placed, Allowed, Begins}
 use Rattle.placing.specs.method.Walking.{start, walked, advanced, isAlive, isAtEnd}

@@ -5,11 +5,11 @@ use mathlib.Core.List.{List, [], _∷_}
 use Rattle.guide.specs.meaning.Guide.{guideOf}
 use Rattle.book_laws.proofs.Bytes.{k}
 use Rattle.book_laws.proofs.Inhabited.{k-is-good}
-use Rattle.placing.specs.meaning.Plan.{Plan, planIn, target}
+use Rattle.guide.specs.meaning.Plan.{Plan, planIn, target}
 use Rattle.placing.specs.meaning.Placement.{Allowed}
 use Rattle.placing.specs.method.Walking.{isPlaceable, isClear, isPassed, canCloseAll, admits, stacked, advanced, walked}
 use Rattle.placing.specs.method.Tree.{openedBy, noted, notedParents}
-use Rattle.placing.specs.meaning.Tree.{climb}
+use Rattle.guide.specs.meaning.Tree.{climb}
 use Rattle.placing.specs.method.ClosedTree.{lastOf, closed, closedParents}
 use Rattle.placing.specs.method.Passes.{testedFrom, tested}
 use Rattle.placing.specs.declared.passes.Placing.the-variants.{Begins, NoHome, Stops}

@@ -33,7 +33,8 @@ use Rattle.reading.proofs.Seeking.{span-by-end}
 use Rattle.reading_laws.proofs.Values.{part-is-value}
 use Rattle.reading_laws.proofs.Tags.{tag-of-segment, tag-small, three-bytes}
 use Rattle.placing.specs.meaning.Fitting.{isAmong, hasTag, isSelected, fits, least, homeOf}
-use Rattle.placing.specs.method.Fitting.{isAnyCode, isSelectedAt, fitsAt, homeAt}
+use Rattle.placing.specs.method.Fitting.{isSelectedAt, fitsAt, homeAt}
+use Rattle.guide.specs.method.Codes.{isAnyCode}
 use Rattle.reading.proofs.Booleans.{left, right, denied, same-test}
 use Rattle.placing_laws.proofs.Codes.{any-code}
 use Rattle.placing.proofs.Finding.{Least, found, none, least-is}

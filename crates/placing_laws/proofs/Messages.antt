@@ -12,7 +12,7 @@ use Rattle.reading.specs.meaning.Message.{Message, ValidSegment, render}
 use Rattle.reading.specs.meaning.WellFormed.{WellFormed}
 use Rattle.reading.specs.declared.service.Service.{Service}
 use Rattle.reading_laws.proofs.Cursors.{written-at}
-use Rattle.placing.specs.meaning.Plan.{Plan, planIn}
+use Rattle.guide.specs.meaning.Plan.{Plan, planIn}
 use Rattle.placing.specs.meaning.Fitting.{homeOf}
 use Rattle.placing.specs.method.Fitting.{homeAt}
 use Rattle.placing.specs.meaning.Placement.{Placed, parentsOf}

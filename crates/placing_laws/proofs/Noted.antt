@@ -6,7 +6,7 @@ use mathlib.Core.List.{List, [], _∷_}
 use mathlib.Core.Bool.{Bool, true, false}
 use lib.ListN.{length, getD, set, length-set}
 use lib.Seq.{getD-set-same, getD-set-other}
-use Rattle.placing.specs.meaning.Plan.{Plan, deep, Of}
+use Rattle.guide.specs.meaning.Plan.{Plan, deep, Of}
 use Rattle.placing.specs.meaning.Placement.{Contents, nothing, segment, instance, homes, size, parents, parentsOf, Runs, Placed}
 use Rattle.placing.specs.method.Tree.{rootOnly, openedBy, noted, notedParents}
 use Rattle.placing_laws.proofs.Structured.{Structured}

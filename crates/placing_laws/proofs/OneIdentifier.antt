@@ -15,7 +15,7 @@ use Rattle.guide.specs.meaning.Guide.{guideOf}
 use Rattle.book.specs.meaning.GoodBook.{GoodBook, carrierRule, carrierGroupRule, aroundRule, deeperRule}
 use Rattle.book_laws.proofs.Clauses.{carrier-rule, carrier-group}
 use Rattle.book_laws.proofs.Parents.{ParentOf, parent-exists}
-use Rattle.placing.specs.meaning.Plan.{Plan, planIn, deep, opening, Of}
+use Rattle.guide.specs.meaning.Plan.{Plan, planIn, deep, opening, Of}
 use Rattle.placing.specs.meaning.Placement.{Contents, nothing, segment, instance, homes, count, Counted, Runs, Allowed, occurrences}
 use Rattle.placing_laws.proofs.Structured.{Structured, structured}
 use Rattle.placing_laws.proofs.Trees.{one-here, one-other, Same, it, other, same}

@@ -2,12 +2,8 @@
 -- The promises are the contracts of src/ themselves, as the check reads them (`Reads`), and no copies.
 use mathlib.Core.Path.{_≡_, sym, _∙_}
 use Rattle.reading_laws.proofs.OneOutcome.{One}
-use Rattle.placing.proofs.code.is_any_code.Reads as is-any-code
 use Rattle.placing.proofs.test_placing.Reads as test-placing
 use Rattle.placing.proofs.write_tree.Reads as write-tree
-
-pub one-is-any-code : One is-any-code.Post
-one-is-any-code κs a r q x y m n = m ∙ sym n
 
 pub one-test-placing : One test-placing.Post
 one-test-placing κs a r q x y m n = m ∙ sym n

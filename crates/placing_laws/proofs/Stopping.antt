@@ -10,7 +10,7 @@ use lib.Dec.{eqb}
 use lib.ListN.{length, getD, take, drop, take-append-drop, length-append, List·getD-append}
 use lib.Seq.{take-append-le, take-all, getD-append-seam}
 use borrow.Author.Tests.{eq-eqb, ne-eqb, eqb-true, eqb-false}
-use Rattle.placing.specs.meaning.Plan.{Plan, isTrigger, target}
+use Rattle.guide.specs.meaning.Plan.{Plan, isTrigger, target}
 use Rattle.placing.specs.meaning.Placement.{Allowed}
 use Rattle.placing.specs.meaning.Placement as placement
 use Rattle.placing.specs.method.Walking.{start, isPlaceable, admits, stacked, entered, advanced, walked, isAlive, isAtEnd}

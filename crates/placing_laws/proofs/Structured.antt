@@ -11,7 +11,7 @@ use Rattle.guide.specs.meaning.Guide.{guideOf}
 use Rattle.book.specs.meaning.Rule.{Holds}
 use Rattle.book.specs.meaning.GoodBook.{GoodBook, frameRule, triggerRule, fallRule}
 use Rattle.book_laws.proofs.Clauses.{counts, line-kind, line-depth, line-maximum, first-frame, last-frame, group-trigger, line-falls}
-use Rattle.placing.specs.meaning.Plan.{Plan, planIn}
+use Rattle.guide.specs.meaning.Plan.{Plan, planIn}
 
 -- a segment line that is required, once, at the root
 pub record Frame (b : Plan) (l : ℕ) : Type 0 where

@@ -7,7 +7,7 @@ use mathlib.Core.Bool.{Bool, true, false, cond}
 use lib.Dec.{eqb}
 use lib.ListN.{length}
 use borrow.Author.Tests.{eq-eqb, ne-eqb, eqb-true, eqb-false}
-use Rattle.placing.specs.meaning.Plan.{Plan, station, Of}
+use Rattle.guide.specs.meaning.Plan.{Plan, station, Of}
 use Rattle.placing.specs.meaning.Placement.{Contents, nothing, segment, instance, homes, size, count, UpTo, Counted, Runs}
 
 -- ---- the homes of a tree

@@ -8,7 +8,7 @@ use lib.Dec.{eqb, ltb, leb}
 use lib.ListN.{length, getD, take, drop, length-append}
 use borrow.Author.Tests.{eqb-true, eqb-false, ltb-true, lt-ltb, le-ltb, leb-true, le-leb}
 use Rattle.placing.specs.declared.walk.Level.{Level}
-use Rattle.placing.specs.meaning.Plan.{Plan, deep, opening, Of, isTrigger, target}
+use Rattle.guide.specs.meaning.Plan.{Plan, deep, opening, Of, isTrigger, target}
 use Rattle.placing_laws.proofs.Structured.{Trigger, Structured}
 use Rattle.placing.specs.meaning.Placement.{Contents, nothing, segment, instance, homes, count, UpTo}
 use Rattle.placing.specs.method.Walking.{level, isPlaceable, isClear, isPassed, canCloseAll, canMove, raised, admits, entered, stacked, advanced, walked, isAlive, SegmentLine}

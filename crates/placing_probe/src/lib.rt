@@ -3,7 +3,7 @@
 ghost use mathlib.Core.Path.{_≡_};
 ghost use Rattle.placing_probe.specs.Probe.{packed};
 ghost use Rattle.reading.specs.meaning.Service.{standard};
-ghost use Rattle.placing.specs.meaning.Plan.{planIn};
+ghost use Rattle.guide.specs.meaning.Plan.{planIn};
 ghost use Rattle.judging.specs.meaning.Answers.{placingVerdict};
 ghost use Rattle.placing.specs.method.Passes.{homesFrom, tested, startsTable, homesTable, parentsTable};
 use placing::Placing;

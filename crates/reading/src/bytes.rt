@@ -1,4 +1,4 @@
-// One byte: read wherever it may stand, and what it is in a message.
+// What a byte is in a message.
 ghost use mathlib.Core.Path.{_≡_};
 ghost use Prim.Native.Nat.{_<_};
 ghost use lib.ListN.{getD};
@@ -6,16 +6,6 @@ ghost use Rattle.reading.specs.meaning.Digit.{isDigit};
 ghost use Rattle.reading.specs.meaning.Service.{isData, isTagByte, mustRelease};
 ghost use Rattle.reading.specs.method.Machine.{kindOf, isText};
 use crate::service::Service;
-
-// The byte at an offset; 0 past the end.
-pub fn byte_at(bytes: &[u8], at: usize) -> u32
-    ensures { λ r. ⌜ (r ≡ getD (now (bytes .entry)) at 0) × (r < 256) ⌝ }
-{
-    if at < bytes.len() {
-        return bytes[at] as u32;
-    }
-    0
-}
 
 // What a byte is, under given service characters.
 pub enum Kind {

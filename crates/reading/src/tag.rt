@@ -2,7 +2,6 @@
 ghost use mathlib.Core.Path.{_≡_};
 ghost use Prim.Native.Nat.{_<_, _^_};
 ghost use Rattle.reading.specs.method.Tag.{tagAt};
-use crate::bytes;
 
 // The tags of a message's first segment and its last, as numbers.
 pub const UNH: u32 = 0x484e55;
@@ -16,7 +15,7 @@ pub fn tag_at(message: &[u8], at: usize) -> u32
     if message.len() <= at {
         return 0;
     }
-    bytes::byte_at(message, at)
-        + 256 * bytes::byte_at(message, at + 1)
-        + 65536 * bytes::byte_at(message, at + 2)
+    slices::byte_at(message, at)
+        + 256 * slices::byte_at(message, at + 1)
+        + 65536 * slices::byte_at(message, at + 2)
 }

@@ -2,7 +2,9 @@
 -- The promises are the contracts of src/ themselves, as the check reads them (`Reads`), and no copies.
 use mathlib.Core.Path.{_≡_, sym, _∙_}
 use Rattle.reading.proofs.service.Service.standard.Reads as standard
-use Rattle.reading.proofs.bytes.byte_at.Reads as byte-at
+use Rattle.slices.proofs.byte_at.Reads as byte-at
+use Rattle.slices.proofs.put.Reads as put
+use Rattle.slices.proofs.put_size.Reads as put-size
 use Rattle.reading.proofs.bytes.is_data.Reads as is-data
 use Rattle.reading.proofs.bytes.is_digit.Reads as is-digit
 use Rattle.reading.proofs.bytes.is_tag_byte.Reads as is-tag-byte
@@ -91,3 +93,11 @@ one-same-component κs a r q x y m n = m ∙ sym n
 
 pub one-tag-at : One tag-at.Post
 one-tag-at κs a r q x y m n = m .0 ∙ sym (n .0)
+
+-- the table is the first argument
+pub one-put : (κs : _) (a : _) (r q : _) (x y : _) → put.Post κs a r x → put.Post κs a q y → x .0 .now ≡ y .0 .now
+one-put κs a r q x y m n = m ∙ sym n
+
+-- the table is the first argument
+pub one-put-size : (κs : _) (a : _) (r q : _) (x y : _) → put-size.Post κs a r x → put-size.Post κs a q y → x .0 .now ≡ y .0 .now
+one-put-size κs a r q x y m n = m ∙ sym n

@@ -13,8 +13,8 @@ use borrow.Author.Tests.{eq-eqb, ne-eqb, lt-ltb, le-ltb}
 use Rattle.guide.specs.meaning.Guide.{Guide}
 use Rattle.guide.specs.meaning.View.{inUse}
 use native.Mathlib.Nat.{mul-le-mul}
-use Rattle.placing.specs.meaning.Plan.{Plan, deep, opening}
-use Rattle.placing.specs.meaning.Tree.{climb}
+use Rattle.guide.specs.meaning.Plan.{Plan, deep, opening}
+use Rattle.guide.specs.meaning.Tree.{climb}
 use Rattle.reading.specs.meaning.Component.{sameComponent}
 use Rattle.rules.specs.meaning.Conditions.{said, isUnknown}
 use Rattle.rules.specs.method.FirstFound.{firstUnknown}

@@ -6,8 +6,8 @@ use mathlib.Core.Bool.{Bool, true, false, cond, _&&_, _||_, true≢false, false�
 use borrow.Author.Tests.{eq-eqb, ne-eqb}
 use Rattle.guide.specs.meaning.Guide.{Guide}
 use Rattle.guide.specs.meaning.View.{Row, rowNumber, rowOf}
-use Rattle.placing.specs.meaning.Plan.{planOf, opening}
-use Rattle.placing.specs.meaning.Tree.{owner}
+use Rattle.guide.specs.meaning.Plan.{planOf, opening}
+use Rattle.guide.specs.meaning.Tree.{owner}
 use Rattle.rules.specs.method.FirstFound.{firstUnknown}
 use Rattle.rules.specs.meaning.Rows.{conditionsOf, isBroken}
 use Rattle.rules.specs.meaning.Instances.{shownBy}

@@ -2,8 +2,8 @@
 ghost use mathlib.Core.Path.{_≡_};
 ghost use Prim.Native.Nat.{suc, _<_, _≤_};
 ghost use lib.ListN.{length, drop};
-ghost use Rattle.placing.specs.meaning.Plan.{planIn, opening};
-ghost use Rattle.placing.specs.meaning.Tree.{owner};
+ghost use Rattle.guide.specs.meaning.Plan.{planIn, opening};
+ghost use Rattle.guide.specs.meaning.Tree.{owner};
 ghost use Rattle.rules.specs.meaning.Instances.{shownBy};
 ghost use Rattle.rules.specs.method.Scanning.{noted, begun};
 ghost use Rattle.rules.specs.method.Laps.{lapFrom};

@@ -10,10 +10,10 @@ use Rattle.guide.specs.meaning.Guide.{Guide, guideOf}
 use Rattle.guide.specs.meaning.View.{Row}
 use Rattle.book_laws.proofs.Bytes.{k}
 use Rattle.book_laws.proofs.Inhabited.{k-is-good}
-use Rattle.placing.specs.meaning.Plan.{planIn, target}
+use Rattle.guide.specs.meaning.Plan.{planIn, target}
 use Rattle.placing.specs.meaning.Placement.{Placed, Allowed}
 use Rattle.placing.specs.method.Walking.{isPlaceable, isClear, isPassed, canCloseAll, admits, stacked, advanced, walked}
-use Rattle.placing.specs.meaning.Tree.{climb}
+use Rattle.guide.specs.meaning.Tree.{climb}
 use Rattle.placing.specs.method.Tree.{openedBy, noted, notedParents}
 use Rattle.placing_laws.proofs.Structured.{structured}
 use Rattle.placing_laws.proofs.Noted.{tree}
@@ -25,7 +25,7 @@ use Rattle.rules.specs.method.FirstFound.{some, firstUnknown, foundAmong, first
 use Rattle.rules.specs.meaning.Rows.{literal, allHold, anyHolds}
 use Rattle.rules.specs.meaning.Instances.{segmentsOf, firstIn}
 use Rattle.rules.specs.meaning.Entries.{entriesIn, entriesFrom, entriesOf}
-use Rattle.rules.specs.meaning.OnTree.{RulesHold}
+use Rattle.rules_laws.specs.meaning.OnTree.{RulesHold}
 use Rattle.rules.specs.method.Scanning.{reading, breachOf, instancesFrom, scannedIn, scannedFrom, scannedRow}
 use Rattle.rules.specs.method.Identifiers.{identifiedFrom, identified}
 use Rattle.rules.specs.declared.breach.Breach.the-variants.{Never, Always, Sometimes}

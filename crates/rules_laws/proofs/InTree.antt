@@ -8,13 +8,13 @@ use mathlib.Core.List.{List, [], _∷_}
 use mathlib.Core.Bool.{Bool, true, false, not, cond, _&&_, true≢false}
 use lib.Dec.{eqb, leb}
 use borrow.Author.Tests.{eqb-true, eqb-false, le-leb, lt-leb}
-use Rattle.placing.specs.meaning.Plan.{Plan, Of, isTrigger, target}
+use Rattle.guide.specs.meaning.Plan.{Plan, Of, isTrigger, target}
 use Rattle.placing.specs.meaning.Placement.{Contents, nothing, segment, instance, homes, homesOf, size, count, Counted, Runs, parents, parentsOf}
 use Rattle.placing_laws.proofs.Structured.{Structured}
 use Rattle.placing_laws.proofs.Trees.{Same, it, other, same}
 use Rattle.placing_laws.proofs.Walks.{homeFor, homeFor-trigger, homeFor-target}
 use Rattle.rules.specs.meaning.Instances.{segmentsOf, instancesOf, shownBy, firstIn, isPresent}
-use Rattle.rules.specs.meaning.OnTree.{hasLine}
+use Rattle.rules_laws.specs.meaning.OnTree.{hasLine}
 use Rattle.rules_laws.proofs.Lines.{sign-target}
 
 -- ---- instances in the tree

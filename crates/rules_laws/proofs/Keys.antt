@@ -13,8 +13,8 @@ use borrow.Author.Tests.{eq-eqb, ne-eqb, eqb-true}
 use Rattle.guide.specs.meaning.Guide.{Guide, guideOf}
 use Rattle.book.specs.meaning.GoodBook.{GoodBook}
 use Rattle.guide.specs.meaning.View.{rowOf}
-use Rattle.placing.specs.meaning.Plan.{planOf, opening, isTrigger}
-use Rattle.placing.specs.meaning.Tree.{owner}
+use Rattle.guide.specs.meaning.Plan.{planOf, opening, isTrigger}
+use Rattle.guide.specs.meaning.Tree.{owner}
 use Rattle.placing_laws.proofs.Structured.{Structured, structured}
 use Rattle.rules.specs.meaning.Instances.{segmentsOf, instancesOf, shownBy, firstIn, firstOf, isPresent, placeIn}
 use Rattle.rules.specs.meaning.Entries.{Entry, entryFor, entriesIn, entriesFrom, entriesOf}

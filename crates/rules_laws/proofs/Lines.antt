@@ -8,9 +8,9 @@ use mathlib.Core.List.{List, [], _∷_}
 use mathlib.Core.Bool.{Bool, true, false, cond, false≢true}
 use lib.Dec.{ltb}
 use borrow.Author.Tests.{lt-ltb, le-ltb, ltb-true, ltb-false}
-use Rattle.placing.specs.meaning.Plan.{Plan, deep, opening, Of, isTrigger, target}
+use Rattle.guide.specs.meaning.Plan.{Plan, deep, opening, Of, isTrigger, target}
 use Rattle.placing.specs.meaning.Placement.{Contents, nothing, segment, instance, homes, Runs, Placed}
-use Rattle.placing.specs.meaning.Tree.{climb, owner}
+use Rattle.guide.specs.meaning.Tree.{climb, owner}
 use Rattle.placing_laws.proofs.Structured.{Structured}
 use Rattle.placing_laws.proofs.Trees.{Same, it, other, same}
 use Rattle.placing_laws.proofs.Walks.{deep-of}

@@ -9,9 +9,9 @@ use mathlib.Core.Bool.{Bool, true, false, not, cond, false≢true}
 use borrow.Author.Tests.{ne-eqb}
 use Rattle.guide.specs.meaning.Guide.{Guide, guideOf}
 use Rattle.book.specs.meaning.GoodBook.{GoodBook}
-use Rattle.placing.specs.meaning.Plan.{Plan, planOf, planIn, Of, isTrigger}
+use Rattle.guide.specs.meaning.Plan.{Plan, planOf, planIn, Of, isTrigger}
 use Rattle.placing.specs.meaning.Placement.{Contents, nothing, segment, instance, homesOf, size, Runs, Placed, parentsOf}
-use Rattle.placing.specs.meaning.Tree.{owner}
+use Rattle.guide.specs.meaning.Tree.{owner}
 use Rattle.placing_laws.proofs.Structured.{Structured, structured}
 use Rattle.placing_laws.proofs.Trees.{Same, it, other, same}
 use Rattle.placing_laws.proofs.Walks.{of-no-trigger}
@@ -19,7 +19,7 @@ use Rattle.placing_laws.proofs.Closed.{owner-of}
 use Rattle.rules.specs.meaning.Conditions.{Assignment}
 use Rattle.rules.specs.meaning.Instances.{instancesOf, shownBy, firstIn, firstOf, isPresent}
 use Rattle.rules.specs.meaning.Entries.{Entry, entriesIn, entriesFrom, entriesOf}
-use Rattle.rules.specs.meaning.OnTree.{hasLine, KeepsRow, LinesKeep, InstancesKeep, RulesHold}
+use Rattle.rules_laws.specs.meaning.OnTree.{hasLine, KeepsRow, LinesKeep, InstancesKeep, RulesHold}
 use Rattle.rules_laws.proofs.Lines.{trigger-owner, trigger-group, of-owner, group-owner}
 use Rattle.rules_laws.proofs.InTree.{Inside, InTree, Each, inside-runs, trigger-in, of-instances, each-instance, present-in}
 use Rattle.rules_laws.proofs.Keys.{All, all-append}

@@ -6,9 +6,9 @@ use mathlib.Core.Path.{_≡_, refl, sym, ap, _∙_, subst}
 use mathlib.Core.List.{List}
 use mathlib.Core.Bool.{Bool, true, false, not, cond, false≢true}
 use borrow.Author.Tests.{eq-eqb, le-leb}
-use Rattle.placing.specs.meaning.Plan.{Plan, isTrigger}
+use Rattle.guide.specs.meaning.Plan.{Plan, isTrigger}
 use Rattle.placing.specs.meaning.Placement.{Contents, homesOf, count, Placed, parentsOf}
-use Rattle.placing.specs.meaning.Tree.{owner}
+use Rattle.guide.specs.meaning.Tree.{owner}
 use Rattle.placing_laws.proofs.Structured.{Structured}
 use Rattle.rules.specs.meaning.Instances.{instancesOf, shownBy, firstIn, firstOf, isPresent}
 use Rattle.rules_laws.proofs.Lines.{trigger-owner, of-owner, group-owner}

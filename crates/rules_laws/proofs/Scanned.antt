@@ -12,9 +12,9 @@ use Rattle.guide.specs.meaning.Guide.{Guide, guideOf}
 use Rattle.book.specs.meaning.GoodBook.{GoodBook}
 use Rattle.guide.specs.meaning.View.{Row, rowOf}
 use Rattle.book_laws.proofs.ViewedRows.{required-row}
-use Rattle.placing.specs.meaning.Plan.{planOf, planIn, opening}
+use Rattle.guide.specs.meaning.Plan.{planOf, planIn, opening}
 use Rattle.placing.specs.meaning.Placement.{Placed, parentsOf}
-use Rattle.placing.specs.meaning.Tree.{owner}
+use Rattle.guide.specs.meaning.Tree.{owner}
 use Rattle.placing.specs.method.ClosedTree.{closedParents}
 use Rattle.placing.specs.method.Tree.{notedParents}
 use Rattle.placing_laws.proofs.Structured.{structured}

@@ -1,6 +1,5 @@
 // The C door: what c/tracksaddle.h declares, and nothing else. Numbers and slices pass; the work is done below.
 ghost use mathlib.Core.Path.{_≡_};
-ghost use lib.ListN.{set};
 ghost use Rattle.tracksaddle.specs.meaning.Door.{asManyAsFit, partNumbers};
 ghost use Rattle.reading.specs.method.Machine.{componentSpan};
 ghost use Rattle.reading.specs.meaning.Service.{standard};
@@ -9,29 +8,19 @@ ghost use Rattle.framing.specs.meaning.Record.{numbersOf};
 ghost use Rattle.judging.specs.method.Table.{judged, tablesAfter};
 ghost use Rattle.judging.specs.meaning.Tables.{tables, roomOf};
 use framing::Verdict;
-use framing::table;
 use reading::lookup;
 use reading::service::Service;
-
-// One size into a lent table, if it fits there.
-fn put_size(table: &mut [usize], at: usize, size: usize)
-    ensures { λ _. ⌜ now (table .exit) ≡ set (now (table .entry)) at size ⌝ }
-{
-    if at < table.len() {
-        table[at] = size;
-    }
-}
 
 // The six numbers in 01's order.
 fn put_verdict(numbers: &mut [u32], verdict: Verdict)
     ensures { λ _. ⌜ now (numbers .exit) ≡ asManyAsFit (numbersOf verdict) (now (numbers .entry)) ⌝ }
 {
-    table::put(numbers, 0, verdict.number);
-    table::put(numbers, 1, verdict.place.at);
-    table::put(numbers, 2, verdict.place.line);
-    table::put(numbers, 3, verdict.place.element);
-    table::put(numbers, 4, verdict.place.component);
-    table::put(numbers, 5, verdict.condition);
+    slices::put(numbers, 0, verdict.number);
+    slices::put(numbers, 1, verdict.place.at);
+    slices::put(numbers, 2, verdict.place.line);
+    slices::put(numbers, 3, verdict.place.element);
+    slices::put(numbers, 4, verdict.place.component);
+    slices::put(numbers, 5, verdict.condition);
 }
 
 // The verdict on the message under the book, with what is known of the conditions: its number is returned, its six numbers
@@ -51,7 +40,8 @@ pub extern "C" fn tracksaddle_judge(
         × (tables (now (starts .exit)) (now (homes .exit)) (now (parents .exit))
         ≡ tablesAfter standard (now (message .entry)) (now (book .entry)) (now (conditions .entry)) (tables (now (starts .entry)) (now (homes .entry)) (now (parents .entry)))) ⌝ }
 {
-    let verdict = judging::judge(message, book, conditions, starts, homes, parents);
+    let service = Service::standard();
+    let verdict = judging::judge(service, message, book, conditions, starts, homes, parents);
     put_verdict(numbers, verdict);
     verdict.number
 }
@@ -70,8 +60,8 @@ pub extern "C" fn tracksaddle_find_component(
     let span = lookup::component_span(Service::standard(), message, at, element, component);
     let start = span.start;
     let end = span.end;
-    put_size(part, 0, start);
-    put_size(part, 1, end - start);
+    slices::put_size(part, 0, start);
+    slices::put_size(part, 1, end - start);
 }
 
 // The table's number for the book alone: 1 malformed, 0 otherwise.

@@ -101,6 +101,10 @@ pub record Kept (h : Handed) (l : Left) : Type 1 where
   pub unsure : Shown h → (l .number ≡ 15)
       ↔ ((fs : List ℕ) × (gs : List ℕ) × Fills (h .conditions) fs × Fills (h .conditions) gs
       × ((j k : Left) → Promised (knowing fs h) j → Promised (knowing gs h) k → (v : Verdict) → Answers (knowing fs h) j v → Answers (knowing gs h) k v → ⊥))
+  -- and whatever room the record has: number 15 exactly when there are two fillings of which the table says different verdicts
+  pub fillings-differ : (l .number ≡ 15)
+      ↔ ((fs : List ℕ) × (gs : List ℕ) × Fills (h .conditions) fs × Fills (h .conditions) gs
+      × ((v : Verdict) → Says (knowing fs h) v → Says (knowing gs h) v → ⊥))
   pub later : (ds : List ℕ) (k : Left) → Promised (knowing ds h) k → Learns (h .conditions) ds → (l .number ≡ 15 → ⊥) → (v : Verdict) → Answers h l v
       → Answers (knowing ds h) k v
 

@@ -14,12 +14,12 @@ use Rattle.reading.specs.meaning.Service.{All}
 use Rattle.reading.specs.meaning.Message.{Message}
 use Rattle.reading.specs.meaning.WellFormed.{WellFormed}
 use Rattle.reading.specs.declared.service.Service.{Service}
-use Rattle.placing.specs.meaning.Plan.{planIn}
+use Rattle.guide.specs.meaning.Plan.{planIn}
 use Rattle.placing.specs.meaning.Fitting.{fits}
 use Rattle.placing.specs.meaning.Placement.{Placed, parentsOf}
 use Rattle.reading.specs.meaning.Starts.{startsOf}
 use Rattle.rules.specs.meaning.Conditions.{Assignment, told, Fills, Learns}
-use Rattle.rules.specs.meaning.OnTree.{RulesHold}
+use Rattle.rules_laws.specs.meaning.OnTree.{RulesHold}
 use Rattle.framing.specs.meaning.Record.{answer}
 use Rattle.judging.specs.meaning.Tables.{isRefusal, Tables, roomOf}
 use Rattle.judging.specs.method.Table.{judged, tablesAfter}

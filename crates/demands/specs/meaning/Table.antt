@@ -14,7 +14,7 @@ use Rattle.reading.specs.meaning.Service.{All}
 use Rattle.reading.specs.meaning.Message.{Segment, Message}
 use Rattle.reading.specs.meaning.Component.{valueAt}
 use Rattle.reading.specs.declared.service.Service.{Service}
-use Rattle.placing.specs.meaning.Plan.{planIn}
+use Rattle.guide.specs.meaning.Plan.{planIn}
 use Rattle.placing.specs.meaning.Fitting.{homeOf}
 use Rattle.placing.specs.meaning.Placement.{Placed, Stops, parentsOf}
 use Rattle.placing.specs.meaning.Answers.{HaveHomes, FirstWithout}

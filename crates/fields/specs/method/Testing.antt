@@ -9,7 +9,7 @@ use lib.ListN.{length, getD, drop}
 use Rattle.guide.specs.meaning.Guide.{Guide}
 use Rattle.guide.specs.meaning.View.{numbersFrom}
 use Rattle.guide.specs.meaning.Words.{numberForm, emptyPresence, mustPresence, withElementPresence}
-use Rattle.placing.specs.method.Fitting.{isAnyCode}
+use Rattle.guide.specs.method.Codes.{isAnyCode}
 use Rattle.reading.specs.meaning.Component.{valueOf}
 use Rattle.reading.specs.declared.service.Service.{Service}
 use Rattle.fields.specs.method.Number.{isNumber}

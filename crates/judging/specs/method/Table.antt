@@ -14,7 +14,7 @@ use Rattle.framing.specs.meaning.Record.{answer}
 use Rattle.framing.specs.method.Stages.{orElse, componentAt, messageStage}
 use Rattle.framing.specs.declared.message.Room.{Room}
 use Rattle.framing.specs.declared.verdict.Verdict.{Verdict}
-use Rattle.placing.specs.meaning.Plan.{planIn}
+use Rattle.guide.specs.meaning.Plan.{planIn}
 use Rattle.placing.specs.method.Passes.{homesFrom, tested, startsTable, homesTable, parentsTable}
 use Rattle.fields.specs.method.Testing.{firstFault}
 use Rattle.rules.specs.method.Identifiers.{identified}

@@ -3,7 +3,7 @@ use Prim.Native.Nat.{ℕ, suc, _-_, _≤_, _<_}
 use mathlib.Core.Path.{_≡_}
 use mathlib.Core.List.{List}
 use lib.ListN.{length, getD}
-use Rattle.placing.specs.meaning.Plan.{Plan}
+use Rattle.guide.specs.meaning.Plan.{Plan}
 use Rattle.placing.specs.meaning.Placement as placement
 use Rattle.placing.specs.declared.passes.Placing.{Placing}
 use Rattle.placing.specs.declared.passes.Placing.the-variants.{Begins, NoHome, Stops}

@@ -5,7 +5,7 @@ use mathlib.Core.List.{List, [], _∷_, _++_}
 use mathlib.Core.Bool.{true, false, cond}
 use lib.Dec.{eqb}
 use lib.ListN.{length, take}
-use Rattle.placing.specs.meaning.Plan.{Plan, station, Of}
+use Rattle.guide.specs.meaning.Plan.{Plan, station, Of}
 
 -- What the message or one instance of a group holds, in the order of the message, the last outermost: nothing; a segment of a
 -- line behind the rest; an instance of a group behind the rest, which is its trigger and then what it holds.

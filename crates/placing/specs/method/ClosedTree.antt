@@ -3,8 +3,8 @@ use Prim.Native.Nat.{ℕ, zero, suc}
 use mathlib.Core.List.{List, [], _∷_, _++_}
 use mathlib.Core.Bool.{cond}
 use lib.Dec.{eqb}
-use Rattle.placing.specs.meaning.Plan.{Plan, target}
-use Rattle.placing.specs.meaning.Tree.{owner}
+use Rattle.guide.specs.meaning.Plan.{Plan, target}
+use Rattle.guide.specs.meaning.Tree.{owner}
 
 -- the number of the last segment of home x, `found` if there is none; k segments stand before
 unfoldable pub lastOf : ℕ → ℕ → ℕ → List ℕ → ℕ

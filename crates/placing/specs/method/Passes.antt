@@ -6,7 +6,7 @@ use lib.Dec.{eqb}
 use lib.Seq.{sets}
 use Rattle.guide.specs.meaning.Guide.{guideOf}
 use Rattle.reading.specs.declared.service.Service.{Service}
-use Rattle.placing.specs.meaning.Plan.{Plan, planIn}
+use Rattle.guide.specs.meaning.Plan.{Plan, planIn}
 use Rattle.placing.specs.method.Fitting.{homeAt}
 use Rattle.placing.specs.method.Walking.{start, walked, isAlive}
 use Rattle.placing.specs.method.Tree.{notedParents}

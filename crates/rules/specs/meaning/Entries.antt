@@ -4,8 +4,8 @@ use mathlib.Core.List.{List, [], _∷_, _++_}
 use mathlib.Core.Bool.{Bool}
 use Rattle.guide.specs.meaning.Guide.{Guide}
 use Rattle.guide.specs.meaning.View.{rowOf, Row}
-use Rattle.placing.specs.meaning.Plan.{planOf}
-use Rattle.placing.specs.meaning.Tree.{owner}
+use Rattle.guide.specs.meaning.Plan.{planOf}
+use Rattle.guide.specs.meaning.Tree.{owner}
 use Rattle.rules.specs.meaning.Conditions.{Assignment}
 use Rattle.rules.specs.meaning.Rows.{expression, conditionsOf, isBroken}
 use Rattle.rules.specs.meaning.Instances.{instancesOf, firstOf, isPresent, placeIn}

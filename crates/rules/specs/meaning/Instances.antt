@@ -4,7 +4,7 @@ use Prim.Native.Nat.{ℕ, zero, suc}
 use mathlib.Core.List.{List, [], _∷_}
 use mathlib.Core.Bool.{Bool, not, cond, _&&_}
 use lib.Dec.{eqb}
-use Rattle.placing.specs.meaning.Plan.{Plan, isTrigger}
+use Rattle.guide.specs.meaning.Plan.{Plan, isTrigger}
 
 -- the segments of home h, by their numbers, where the first of these has number j
 unfoldable pub segmentsOf : ℕ → ℕ → List ℕ → List ℕ

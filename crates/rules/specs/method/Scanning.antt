@@ -8,8 +8,8 @@ use lib.Dec.{eqb, ltb}
 use Rattle.guide.specs.meaning.Guide.{Guide}
 use Rattle.guide.specs.meaning.View.{Row, rowOf, inUse}
 use Rattle.guide.specs.meaning.Words.{anyJoint}
-use Rattle.placing.specs.meaning.Plan.{planOf, opening}
-use Rattle.placing.specs.meaning.Tree.{owner}
+use Rattle.guide.specs.meaning.Plan.{planOf, opening}
+use Rattle.guide.specs.meaning.Tree.{owner}
 use Rattle.rules.specs.meaning.Conditions.{told, isUnknown}
 use Rattle.rules.specs.method.FirstFound.{firstUnknown}
 use Rattle.rules.specs.meaning.Rows.{conditionNumber, literal, conditionsOf, isBroken}

@@ -1,12 +1,14 @@
 -- `tracksaddle_find_component` meets its contract: two numbers put one after the other are as many of the two as fit.
 use Prim.Native.Nat.{_-_, _≤_}
 use native.Mathlib.Omega.{arith}
-use mathlib.Core.Path.{_≡_, refl}
+use mathlib.Core.Path.{_≡_, refl, ap, _∙_}
 use lib.ListN.{set}
 use borrow.Author.Needs.{needs}
-use Rattle.reading.specs.meaning.Service.{standard}
+use Rattle.reading.specs.method.Machine.{componentSpan}
+use Rattle.reading.specs.declared.service.Service.{Service}
+use Rattle.reading.specs.declared.span.Span.{Span}
 use Rattle.reading.proofs.Seeking.{span-inside}
-use Rattle.tracksaddle.specs.meaning.Door.{partNumbers}
+use Rattle.tracksaddle.specs.meaning.Door.{asManyAsFit, partNumbers}
 use Rattle.tracksaddle.proofs.Fitting.{puts-fit}
 use Rattle.tracksaddle.proofs.tracksaddle_find_component.Statement.{statement}
 use Rattle.tracksaddle.proofs.tracksaddle_find_component.Tie as tie
@@ -36,13 +38,18 @@ same-length c = search needs
 
 returns : tie.Need-returns
 returns c =
-    let spanned = c .before .before .before .before .before .before .before .before .component-span in
+    let second = c .before .before in
+    let first = second .before .before .before .before in
+    let spanned = first .before .before .component-span in
+    let standard-at = first .before .before .before in
+    let args = standard-at .before .before .before .args in
     let span = spanned .result in
-    let once = c .before .before .before .before .before .before .put-size .last .0 in
-    let twice = c .before .before .put-size2 .last .0 in
-    let offset : once ≡ set (c .before .before .before .before .before .before .before .before .before .before .before .before .args .part .now) 0 (span .start) = c .before .before .before .before .before .before .put-size .ensures in
-    let long : twice ≡ set once 1 (span .end - span .start) = c .before .before .put-size2 .ensures in
-    rw (← (c .before .before .before .before .before .before .before .before .before .standard .ensures), ← (spanned .ensures)) (puts-fit (partNumbers span) _ _ (_, offset, (_, long, refl)))
+    let once = first .put-size .last .0 in
+    let offset : once ≡ set (args .part .now) 0 (span .start) = first .put-size .ensures in
+    let long : second .put-size2 .last .0 ≡ set once 1 (span .end - span .start) = second .put-size2 .ensures in
+    puts-fit (partNumbers span) (args .part .now) _ (_, offset, (_, long, refl))
+    ∙ ap (λ (x : Span). asManyAsFit (partNumbers x) (args .part .now))
+    (spanned .ensures ∙ ap (λ (s : Service). componentSpan s (args .message .now) (args .at) (args .element) (args .component)) (standard-at .standard .ensures))
 
 pub tracksaddle-find-component-spec : {M : Type 1} → statement M
 tracksaddle-find-component-spec =

@@ -1,11 +1,16 @@
--- `tracksaddle_judge` meets its contract: it hands on what `judge` promises, and writes that verdict's numbers.
+-- `tracksaddle_judge` meets its contract: it hands on what `judge` promises of the standard service characters, and writes that verdict's numbers.
 use mathlib.Core.Path.{ap, _∙_}
 use borrow.Author.Needs.{needs}
 use Rattle.framing.specs.meaning.Record.{numbersOf}
 use Rattle.framing.specs.declared.verdict.Verdict.{Verdict}
+use Rattle.judging.specs.meaning.Tables.{tables}
+use Rattle.judging.proofs.Decided.{standard-decided}
 use Rattle.tracksaddle.specs.meaning.Door.{asManyAsFit}
 use Rattle.tracksaddle.proofs.tracksaddle_judge.Statement.{statement}
 use Rattle.tracksaddle.proofs.tracksaddle_judge.Tie as tie
+
+standard-requires : tie.Need-standard-requires
+standard-requires c κs = search needs
 
 judge-requires : tie.Need-judge-requires
 judge-requires c κs = search needs
@@ -27,17 +32,23 @@ same-length-4 c = search needs
 
 returns : tie.Need-returns
 returns c =
-    let judge = c .before .before .before .before .before .before .before .before .before .before .judge in
-    let lent = c .before .before .before .before .before .before .before .before .before .before .before .before .before .before .before .before .before .before .before .before .before .args .numbers .now in (
-      ap (λ (v : Verdict). v .number) (judge .ensures .0),
-      c .before .before .put-verdict .ensures ∙ ap (λ (v : Verdict). asManyAsFit (numbersOf v) lent) (judge .ensures .0),
-      judge .ensures .1,
+    let judged-at = c .before .before .before .before .before .before .before .before .before .before in
+    let judge = judged-at .judge in
+    let standard-at = judged-at .before .before .before .before in
+    let args = standard-at .before .before .before .before .before .before .before .before .args in
+    let promised =
+    standard-decided _ (standard-at .standard .ensures) (judge .result) (args .message .now) (args .book .now) (args .conditions .now)
+    (tables (args .starts .now) (args .homes .now) (args .parents .now)) (tables _ _ _) (judge .ensures) in (
+      ap (λ (v : Verdict). v .number) (promised .0),
+      c .before .before .put-verdict .ensures ∙ ap (λ (v : Verdict). asManyAsFit (numbersOf v) (args .numbers .now)) (promised .0),
+      promised .1,
     )
 
 pub tracksaddle-judge-spec : {M : Type 1} → statement M
 tracksaddle-judge-spec =
     tie.close
     (tie.spec
+    standard-requires
     judge-requires
     put-verdict-requires
     same-length

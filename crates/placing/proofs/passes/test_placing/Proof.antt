@@ -6,7 +6,7 @@ use mathlib.Core.Path.{sym, _∙_}
 use lib.ListN.{length-set}
 use borrow.Author.Needs.{needs}
 use Rattle.guide.specs.meaning.Guide.{guideOf}
-use Rattle.placing.specs.meaning.Plan.{planIn}
+use Rattle.guide.specs.meaning.Plan.{planIn}
 use Rattle.placing.proofs.Finding.{home-line}
 use Rattle.reading.proofs.Starts.{found-within}
 use Rattle.placing.proofs.Passing.{Testing, test-begin, test-homeless, test-on, test-nothing, test-end}

@@ -3,7 +3,7 @@ use mathlib.Core.Path.{_∙_}
 use lib.ListN.{length-set}
 use borrow.Author.Tests.{not-true, not-false}
 use borrow.Author.Needs.{needs}
-use Rattle.placing.specs.meaning.Plan.{planIn}
+use Rattle.guide.specs.meaning.Plan.{planIn}
 use Rattle.placing.proofs.Steps.{open-not, open-here, open-too-deep}
 use Rattle.placing.proofs.tree.open_instance.Statement.{statement}
 use Rattle.placing.proofs.tree.open_instance.Tie as tie

@@ -6,7 +6,7 @@ use mathlib.Core.Bool.{false}
 use mathlib.Core.List.{List, _++_}
 use borrow.Author.Tests.{not-true, not-false}
 use borrow.Author.Needs.{needs}
-use Rattle.placing.specs.meaning.Plan.{planIn}
+use Rattle.guide.specs.meaning.Plan.{planIn}
 use Rattle.placing.specs.method.Walking.{entered, openLines}
 use Rattle.placing.specs.declared.walk.Level.{Level}
 use Rattle.placing.proofs.Steps.{maximum-fits, move-room, admits-high, admits-still, admits-shut, stacked-is, stands-next, advance-yes, advance-off, advance-no, too-deep, in-depths}

@@ -1,6 +1,6 @@
 -- `walk::can_close` meets its contract: no line stands behind the last one; else the lines behind are looked at.
 use borrow.Author.Needs.{needs}
-use Rattle.placing.specs.meaning.Plan.{planIn}
+use Rattle.guide.specs.meaning.Plan.{planIn}
 use Rattle.placing.proofs.Steps.{close-last, close-is}
 use Rattle.placing.proofs.walk.can_close.Statement.{statement}
 use Rattle.placing.proofs.walk.can_close.Tie as tie

@@ -5,7 +5,7 @@ use mathlib.Core.Path.{_≡_, refl, sym, _∙_}
 use lib.ListN.{drop}
 use borrow.Author.Tests.{not-true, not-false}
 use borrow.Author.Needs.{needs}
-use Rattle.placing.specs.meaning.Plan.{planIn}
+use Rattle.guide.specs.meaning.Plan.{planIn}
 use Rattle.placing.specs.method.Walking.{canCloseAll, openLines}
 use Rattle.placing.proofs.Steps.{shut-end, shut-on, shut-stop}
 use Rattle.placing.proofs.walk.can_close_all.Statement.{statement}

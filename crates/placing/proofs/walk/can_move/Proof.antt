@@ -1,6 +1,6 @@
 -- `walk::can_move` meets its contract: the same line, a later one, or an earlier one.
 use borrow.Author.Needs.{needs}
-use Rattle.placing.specs.meaning.Plan.{planIn}
+use Rattle.guide.specs.meaning.Plan.{planIn}
 use Rattle.placing.proofs.Steps.{move-same, move-far, move-back}
 use Rattle.placing.proofs.walk.can_move.Statement.{statement}
 use Rattle.placing.proofs.walk.can_move.Tie as tie

@@ -1,7 +1,7 @@
 -- `walk::closes_below` meets its contract: where nothing is open nothing is left to close.
 use mathlib.Core.Path.{sym}
 use borrow.Author.Needs.{needs}
-use Rattle.placing.specs.meaning.Plan.{planIn}
+use Rattle.guide.specs.meaning.Plan.{planIn}
 use Rattle.placing.proofs.Steps.{shut-end}
 use Rattle.placing.proofs.walk.closes_below.Statement.{statement}
 use Rattle.placing.proofs.walk.closes_below.Tie as tie

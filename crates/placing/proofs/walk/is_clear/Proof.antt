@@ -3,7 +3,7 @@ use Prim.Native.Nat.{suc, _-_}
 use native.Mathlib.Omega.{arith}
 use mathlib.Core.Path.{_≡_, refl, sym, _∙_}
 use borrow.Author.Needs.{needs}
-use Rattle.placing.specs.meaning.Plan.{planIn}
+use Rattle.guide.specs.meaning.Plan.{planIn}
 use Rattle.placing.specs.method.Walking.{isClear}
 use Rattle.placing.proofs.Loops.{clear-end, clear-shallow, clear-wanted, clear-on}
 use Rattle.placing.proofs.walk.is_clear.Statement.{statement}

@@ -1,6 +1,6 @@
 -- `walk::is_trigger` meets its contract: the first line is none, any other is one if the line before it is a group.
 use borrow.Author.Needs.{needs}
-use Rattle.placing.specs.meaning.Plan.{planIn}
+use Rattle.guide.specs.meaning.Plan.{planIn}
 use Rattle.placing.proofs.Steps.{trigger-low, trigger-at}
 use Rattle.placing.proofs.walk.is_trigger.Statement.{statement}
 use Rattle.placing.proofs.walk.is_trigger.Tie as tie

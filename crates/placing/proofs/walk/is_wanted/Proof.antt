@@ -3,7 +3,7 @@ use Prim.Native.Nat.{ℕ}
 use mathlib.Core.Path.{ap}
 use lib.Dec.{eqb}
 use borrow.Author.Needs.{needs}
-use Rattle.placing.specs.meaning.Plan.{planIn}
+use Rattle.guide.specs.meaning.Plan.{planIn}
 use Rattle.placing.proofs.Loops.{wanted-at, wanted-not}
 use Rattle.placing.proofs.walk.is_wanted.Statement.{statement}
 use Rattle.placing.proofs.walk.is_wanted.Tie as tie

@@ -1,7 +1,7 @@
 -- `walk::target_depth` meets its contract: the depth is that of the line that the home opens or repeats.
 use mathlib.Core.Path.{ap, _∙_}
 use borrow.Author.Needs.{needs}
-use Rattle.placing.specs.meaning.Plan.{planIn}
+use Rattle.guide.specs.meaning.Plan.{planIn}
 use Rattle.placing.proofs.walk.target_depth.Statement.{statement}
 use Rattle.placing.proofs.walk.target_depth.Tie as tie
 

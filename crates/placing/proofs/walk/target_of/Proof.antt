@@ -1,7 +1,7 @@
 -- `walk::target_of` meets its contract: each return is one way through the definition.
 use native.Mathlib.Omega.{arith}
 use borrow.Author.Needs.{needs}
-use Rattle.placing.specs.meaning.Plan.{planIn}
+use Rattle.guide.specs.meaning.Plan.{planIn}
 use Rattle.placing.proofs.Steps.{target-low, target-group, target-self}
 use Rattle.placing.proofs.walk.target_of.Statement.{statement}
 use Rattle.placing.proofs.walk.target_of.Tie as tie

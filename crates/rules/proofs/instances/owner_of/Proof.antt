@@ -4,8 +4,8 @@ use Prim.Native.Nat.{_≤_, _-_}
 use native.Mathlib.Omega.{arith}
 use mathlib.Core.Path.{_≡_, refl, sym, _∙_}
 use borrow.Author.Needs.{needs}
-use Rattle.placing.specs.meaning.Plan.{planIn, deep}
-use Rattle.placing.specs.meaning.Tree.{climb, owner}
+use Rattle.guide.specs.meaning.Plan.{planIn, deep}
+use Rattle.guide.specs.meaning.Tree.{climb, owner}
 use Rattle.rules.proofs.Loops.{owner-here, owner-on, owner-end}
 use Rattle.rules.proofs.instances.owner_of.Statement.{statement}
 use Rattle.rules.proofs.instances.owner_of.Tie as tie

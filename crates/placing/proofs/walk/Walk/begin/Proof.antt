@@ -1,7 +1,7 @@
 -- `Walk::begin` meets its contract: the message itself is open, whatever the book.
 use native.Mathlib.Omega.{arith}
 use mathlib.Core.Path.{refl}
-use Rattle.placing.specs.meaning.Plan.{Plan}
+use Rattle.guide.specs.meaning.Plan.{Plan}
 use Rattle.placing.proofs.Steps.{stands-first}
 use Rattle.placing.proofs.walk.Walk.begin.Statement.{statement}
 use Rattle.placing.proofs.walk.Walk.begin.Tie as tie

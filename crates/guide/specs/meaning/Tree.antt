@@ -2,7 +2,7 @@
 use Prim.Native.Nat.{ℕ, zero, suc}
 use mathlib.Core.Bool.{cond}
 use lib.Dec.{ltb}
-use Rattle.placing.specs.meaning.Plan.{Plan, deep}
+use Rattle.guide.specs.meaning.Plan.{Plan, deep}
 
 -- the last line before x that lies higher than d, 0 for the message
 unfoldable pub climb : Plan → ℕ → ℕ → ℕ

@@ -1,11 +1,12 @@
--- The lines of a guide book, as far as placing needs them. Lines count from 1; line 0 stands for the message itself.
+-- The lines of a guide book as a message runs through them: groups, their triggers and further lines. Lines count from 1; line 0 stands for the
+-- message itself.
 use Prim.Native.Nat.{ℕ, zero, suc, _≤_, _<_, pred}
 use mathlib.Core.Path.{_≡_}
 use mathlib.Core.List.{List}
 use mathlib.Core.Bool.{Bool, false, cond}
 use lib.Dec.{eqb}
 use Rattle.guide.specs.meaning.Guide.{Guide, guideOf}
 use Rattle.guide.specs.meaning.Words.{groupKind}
 
 pub record Plan : Type 0 where
   pub lines : ℕ

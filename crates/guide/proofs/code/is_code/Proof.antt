@@ -4,11 +4,11 @@ use native.Mathlib.Omega.{arith}
 use mathlib.Core.Path.{_≡_, refl, sym, _∙_}
 use lib.ListN.{length, drop}
 use borrow.Author.Needs.{needs}
 use Rattle.guide.specs.meaning.Guide.{guideOf}
-use Rattle.placing.specs.method.Fitting.{spells}
-use Rattle.placing.proofs.Finding.{spell-end, spell-differs, spell-on, code-other-length, code-spelt}
-use Rattle.placing.proofs.code.is_code.Statement.{statement}
-use Rattle.placing.proofs.code.is_code.Tie as tie
+use Rattle.guide.specs.method.Codes.{spells}
+use Rattle.guide.proofs.Codes.{spell-end, spell-differs, spell-on, code-other-length, code-spelt}
+use Rattle.guide.proofs.code.is_code.Statement.{statement}
+use Rattle.guide.proofs.code.is_code.Tie as tie
 
 abbrev Inv-loop : tie.InvT-loop
 Inv-loop book code part long at₀ at = (spells (guideOf book .codeByte code) at (drop at part) ≡ spells (guideOf book .codeByte code) 0 part) × (at ≤ length part)

@@ -1,9 +1,9 @@
--- `table::put` meets its contract: past its end a table stays as it is.
+-- `put_size` meets its contract: past its end a table stays as it is.
 use mathlib.Core.Path.{sym}
 use lib.Seq.{set-out}
 use borrow.Author.Needs.{needs}
-use Rattle.framing.proofs.table.put.Statement.{statement}
-use Rattle.framing.proofs.table.put.Tie as tie
+use Rattle.slices.proofs.put_size.Statement.{statement}
+use Rattle.slices.proofs.put_size.Tie as tie
 
 mul-table : tie.Need-mul-table
 mul-table c = search needs
@@ -20,5 +20,5 @@ returns c = search needs
 returns-2 : tie.Need-returns-2
 returns-2 c = sym (set-out _ _ _ (c .if1 .left))
 
-pub put-spec : {M : Type 1} → statement M
-put-spec = tie.close (tie.spec mul-table slice-write-table same-length returns returns-2)
+pub put-size-spec : {M : Type 1} → statement M
+put-size-spec = tie.close (tie.spec mul-table slice-write-table same-length returns returns-2)

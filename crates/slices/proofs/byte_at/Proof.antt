@@ -1,10 +1,10 @@
--- `bytes::byte_at` meets its contract: within the message it is the byte, past its end 0.
+-- `byte_at` meets its contract: within the slice it is the byte, past its end 0.
 use native.Mathlib.Omega.{arith}
 use mathlib.Core.Path.{refl, sym}
 use lib.ListN.{List·getD-eq-default}
 use borrow.Author.Needs.{needs}
-use Rattle.reading.proofs.bytes.byte_at.Statement.{statement}
-use Rattle.reading.proofs.bytes.byte_at.Tie as tie
+use Rattle.slices.proofs.byte_at.Statement.{statement}
+use Rattle.slices.proofs.byte_at.Tie as tie
 
 shared-slice-read-result : tie.Need-shared-slice-read-result
 shared-slice-read-result c = search needs

@@ -3,11 +3,11 @@ use Prim.Native.Nat.{_+_}
 use native.Mathlib.Omega.{arith}
 use mathlib.Core.Path.{_≡_, refl, sym, _∙_}
 use borrow.Author.Needs.{needs}
 use Rattle.guide.specs.meaning.Guide.{guideOf}
-use Rattle.placing.specs.method.Fitting.{isAnyCode}
-use Rattle.placing.proofs.Finding.{any-end, any-here, any-on}
-use Rattle.placing.proofs.code.is_any_code.Statement.{statement}
-use Rattle.placing.proofs.code.is_any_code.Tie as tie
+use Rattle.guide.specs.method.Codes.{isAnyCode}
+use Rattle.guide.proofs.Codes.{any-end, any-here, any-on}
+use Rattle.guide.proofs.code.is_any_code.Statement.{statement}
+use Rattle.guide.proofs.code.is_any_code.Tie as tie
 
 abbrev Inv-loop : tie.InvT-loop
 Inv-loop book first count part code₀ left₀ code left = (isAnyCode (guideOf book) code left part ≡ isAnyCode (guideOf book) first count part) × (code + left ≡ first + count)

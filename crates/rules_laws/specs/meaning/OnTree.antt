@@ -1,16 +1,16 @@
 -- The rules of a Prüfidentifikator, said of the placement tree. 01: "Rows apply once per instance of the line's parent (once for the
 -- root). A line is present there if it has at least one segment or instance." The law rules-on-tree (rules_laws/proofs/OnTree.antt) says that
--- in a good book no row of FirstRow.antt is broken then, and only then.
+-- in a good book no row of rules/specs/meaning/Entries.antt is broken then, and only then.
 use Prim.Native.Nat.{ℕ, suc}
 use mathlib.Core.Path.{_≡_}
 use mathlib.Core.Bool.{Bool, true, false}
 use lib.Dec.{leb}
 use Rattle.guide.specs.meaning.Guide.{Guide}
 use Rattle.guide.specs.meaning.View.{rowOf}
-use Rattle.placing.specs.meaning.Plan.{planOf, Of}
+use Rattle.guide.specs.meaning.Plan.{planOf, Of}
 use Rattle.placing.specs.meaning.Placement.{Contents, nothing, segment, instance, count}
 use Rattle.rules.specs.meaning.Conditions.{Assignment}
 use Rattle.rules.specs.meaning.Rows.{expression, isBroken}
 
 -- "at least one segment or instance", in the instance that holds ks
 abbrev pub hasLine : ℕ → Contents → Bool

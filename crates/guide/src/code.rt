@@ -1,8 +1,8 @@
 // A component's value among codes of the book: a line's selector asks it, and a field.
 ghost use mathlib.Core.Path.{_≡_};
 ghost use Rattle.guide.specs.meaning.Guide.{guideOf};
-ghost use Rattle.placing.specs.method.Fitting.{isCode, isAnyCode};
-use guide::layout;
+ghost use Rattle.guide.specs.method.Codes.{isCode, isAnyCode};
+use crate::layout;
 
 // Is this part of a message, as it is written, the code's value? No byte of a good code is ever released.
 fn is_code(book: &[u8], code: u32, part: &[u8]) -> bool
