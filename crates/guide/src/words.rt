@@ -5,12 +5,11 @@ pub const KIND_SEGMENT: u32 = 1;
 
 pub const KIND_GROUP: u32 = 2;
 
-// A field: "presence (0 must be empty, 1 must have bytes, 2 may, 3 must if any component of its element has bytes)".
+// A field: "presence (0 must be empty, 1 must have bytes, 2 may, 3 must if any component of its element has bytes)". What may be there is never
+// asked for, and needs no name.
 pub const PRESENCE_EMPTY: u32 = 0;
 
 pub const PRESENCE_MUST: u32 = 1;
-
-pub const PRESENCE_MAY: u32 = 2;
 
 pub const PRESENCE_WITH_ELEMENT: u32 = 3;
 

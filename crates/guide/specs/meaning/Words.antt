@@ -8,15 +8,13 @@ segmentKind = 1
 abbrev pub groupKind : ℕ
 groupKind = 2
 
--- a field: "presence (0 must be empty, 1 must have bytes, 2 may, 3 must if any component of its element has bytes)"
+-- a field: "presence (0 must be empty, 1 must have bytes, 2 may, 3 must if any component of its element has bytes)"; what may be there is
+-- never asked for, and needs no name
 abbrev pub emptyPresence : ℕ
 emptyPresence = 0
 
 abbrev pub mustPresence : ℕ
 mustPresence = 1
-
-abbrev pub mayPresence : ℕ
-mayPresence = 2
 
 abbrev pub withElementPresence : ℕ
 withElementPresence = 3
