@@ -32,7 +32,7 @@ pub const CARRIER: u32 = 24;
 
 pub const LAST: u32 = 26;
 
-// The number that stands there: one of these, in a book that has them all.
+// The number of the header that stands at one of these places.
 pub fn number(book: &[u8], at: u32) -> u32
     ensures { λ r. ⌜ (r ≡ u16At (now (book .entry)) at) × (r < 65536) ⌝ }
 {

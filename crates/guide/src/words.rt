@@ -5,8 +5,8 @@ pub const KIND_SEGMENT: u32 = 1;
 
 pub const KIND_GROUP: u32 = 2;
 
-// A field: "presence (0 must be empty, 1 must have bytes, 2 may, 3 must if any component of its element has bytes)". What may be there is never
-// asked for, and needs no name.
+// A field: "presence (0 must be empty, 1 must have bytes, 2 may, 3 must if any component of its element has bytes)". What may be there is
+// never asked for, and needs no name.
 pub const PRESENCE_EMPTY: u32 = 0;
 
 pub const PRESENCE_MUST: u32 = 1;

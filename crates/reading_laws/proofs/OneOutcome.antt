@@ -98,6 +98,5 @@ one-tag-at κs a r q x y m n = m .0 ∙ sym (n .0)
 pub one-put : (κs : _) (a : _) (r q : _) (x y : _) → put.Post κs a r x → put.Post κs a q y → x .0 .now ≡ y .0 .now
 one-put κs a r q x y m n = m ∙ sym n
 
--- the table is the first argument
 pub one-put-size : (κs : _) (a : _) (r q : _) (x y : _) → put-size.Post κs a r x → put-size.Post κs a q y → x .0 .now ≡ y .0 .now
 one-put-size κs a r q x y m n = m ∙ sym n

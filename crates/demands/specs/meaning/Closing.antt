@@ -33,8 +33,8 @@ pub record Left : Type 0 where
   pub tables : Tables
   pub entries : List ℕ
 
--- an outcome that the contract admits. The contract has the arguments one in another, in their order: message, book, conditions, starts, homes,
--- parents, and the lent record.
+-- an outcome that the contract admits. The contract has the arguments one in another, in their order: message, book, conditions, starts,
+-- homes, parents, and the lent record.
 pub record Promised (h : Handed) (l : Left) : Type 1 where
   pub lifetimes : _
   pub passed : _

@@ -1,5 +1,5 @@
--- The lines of a guide book as a message runs through them: groups, their triggers and further lines. Lines count from 1; line 0 stands for the
--- message itself.
+-- The lines of a guide book as a message runs through them: groups, their triggers and further lines. Lines count from 1; line 0 stands
+-- for the message itself.
 use Prim.Native.Nat.{ℕ, zero, suc, _≤_, _<_, pred}
 use mathlib.Core.Path.{_≡_}
 use mathlib.Core.List.{List}
