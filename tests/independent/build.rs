@@ -5,7 +5,7 @@ use std::env;
 use std::path::Path;
 
 const FOLDER_VARIABLE: &str = "TRACKSADDLE_ARCHIVES";
-const ARCHIVES: [&str; 3] = ["tracksaddle", "reading_probe", "placing_probe"];
+const ARCHIVES: [&str; 2] = ["tracksaddle", "probe"];
 
 fn main() {
     println!("cargo:rerun-if-changed=build.rs");

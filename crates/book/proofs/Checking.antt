@@ -1,10 +1,13 @@
 -- What the check has found decides whether a book is good. And what a good header leaves to the rules after it.
-use Prim.Native.Nat.{ℕ}
+use Prim.Native.Nat.{ℕ, _*_}
 use native.Mathlib.Omega.{arith}
+use native.Mathlib.Nat.{mul-le-mul-right}
 use mathlib.Core.Path.{_≡_, refl}
 use mathlib.Core.List.{List}
 use mathlib.Core.Bool.{true, false}
+use Rattle.guide.specs.meaning.Header.{editionNumber, lineTotal, codeTotal, identifierTotal}
 use Rattle.guide.specs.meaning.Guide.{guideOf}
+use Rattle.guide.proofs.Editions.{sizes-within}
 use Rattle.book.specs.meaning.Rule.{Holds}
 use Rattle.book.specs.method.Run.{run}
 use Rattle.book.specs.meaning.GoodBook.{GoodBook, Judged, lengthRule, countsRule, codeRangeRule, rangeRule, oneHomeRule}
@@ -94,6 +97,9 @@ module _ (bs : List ℕ) where
       let most = h .1 .1 .0 .0 in
       let total = h .1 .1 .0 .1 .1 in
       let some = h .1 .1 .1 .1 .0 in
+      let sizes = sizes-within (editionNumber bs) in
+      let row-bytes = mul-le-mul-right (identifierTotal bs * lineTotal bs) (sizes .wide-row) in
+      let code-bytes = mul-le-mul-right (codeTotal bs) (sizes .wide-code) in
       record { some-lines = omega arith; rows = omega arith; codes = omega arith }
 
   -- and lines whose codes stay inside their block

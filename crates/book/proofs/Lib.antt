@@ -4,3 +4,4 @@ pub mod Joining
 pub mod Tables
 pub mod Passing
 pub mod Checking
+pub mod Tested

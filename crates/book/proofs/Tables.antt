@@ -10,7 +10,7 @@ use lib.ListN.{length, getD, set}
 use lib.Seq.{getD-set-same, getD-set-other}
 use borrow.Author.Count.{below-more}
 use borrow.Author.Tests.{eqb-true, eqb-false}
-use Rattle.guide.specs.meaning.Guide.{Guide, guideOf, codeAt}
+use Rattle.guide.specs.meaning.Guide.{Guide}
 use Rattle.book.specs.method.Run.{run, all}
 use Rattle.book.specs.meaning.GoodBook.{otherThanRule, otherCodeRule, notAmongRule}
 use Rattle.book.specs.method.Tables.{wholeCode, FirstOf, Numbered, Marked}
@@ -42,13 +42,6 @@ first-agrees v w place first same f =
     }
 
 -- ---- numbers tell codes apart
-
--- the four low bytes of a code are a number of 32 bits
-pub low-small : (bs : List ℕ) → ((k : ℕ) → getD bs k 0 < 256) → (c : ℕ) → guideOf bs .codeLow c < 2 ^ 32
-unfolding guideOf
-low-small bs bytes c =
-    let at = codeAt bs c + 0 in
-    omega (arith, bytes at, bytes (at + 1), bytes (at + 2), bytes (at + 2 + 1))
 
 module _ (g : Guide) (numbers : List ℕ) (low : (c : ℕ) → g .codeLow c < 2 ^ 32)
     (first : (c : ℕ) → c < g .codes → FirstOf (wholeCode g) c (getD numbers c 0)) where

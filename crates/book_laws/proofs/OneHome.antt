@@ -1,6 +1,6 @@
 -- One home, by values: two segment lines of the same tag have no code value in common, since codes with the same value are the
 -- same eight bytes.
-use Prim.Native.Nat.{ℕ, _+_, _*_, _≤_, _<_}
+use Prim.Native.Nat.{ℕ, _+_, _≤_, _<_}
 use native.Mathlib.Omega.{arith}
 use native.Mathlib.Decide.{decLt}
 use mathlib.Core.Path.{_≡_, sym, ap, _∙_}
@@ -8,10 +8,10 @@ use mathlib.Core.List.{List, [], _∷_}
 use mathlib.Core.Logic.{dite}
 use lib.ListN.{length, getD, length-take}
 use lib.Seq.{getD-take}
-use Rattle.guide.specs.meaning.Numbers.{byteAt}
 use Rattle.book.specs.meaning.Rule.{Holds}
-use Rattle.guide.specs.meaning.Guide.{guideOf, codeAt}
+use Rattle.guide.specs.meaning.Guide.{guideOf}
 use Rattle.guide.specs.meaning.View.{codeValue}
+use Rattle.guide.proofs.WideNumbers.{code-low-bytes, code-high-bytes}
 use Rattle.book.specs.meaning.GoodBook.{GoodBook, codeRule, codeByteRule, pairRule, sameTagRule, toldApartRule, notAmongRule, otherThanRule}
 use Rattle.book_laws.proofs.Clauses.{code-rule, line-codes, one-home}
 
@@ -19,30 +19,6 @@ use Rattle.book_laws.proofs.Clauses.{code-rule, line-codes, one-home}
 abbrev six : List ℕ → ℕ → List ℕ
 six bs c =
     guideOf bs .codeByte c 0 ∷ guideOf bs .codeByte c 1 ∷ guideOf bs .codeByte c 2 ∷ guideOf bs .codeByte c 3 ∷ guideOf bs .codeByte c 4 ∷ guideOf bs .codeByte c 5 ∷ []
-
-module _ (bs : List ℕ) where
-  byte : (x y : ℕ) → x ≡ y → byteAt bs x ≡ byteAt bs y
-  byte x y e = ap (byteAt bs) e
-
-  -- the eight bytes as two numbers
-  low-is : (c : ℕ) → guideOf bs .codeLow c ≡ guideOf bs .codeLength c + 256 * guideOf bs .codeByte c 0 + 65536 * (guideOf bs .codeByte c 1 + 256 * guideOf bs .codeByte c 2)
-  unfolding guideOf
-  low-is c =
-      let at = codeAt bs c in
-      let a = byte (at + 0 + 1) (at + (1 + 0)) (omega arith) in
-      let b = byte (at + 0 + 2) (at + (1 + 1)) (omega arith) in
-      let d = byte (at + 0 + 2 + 1) (at + (1 + 2)) (omega arith) in
-      omega arith
-
-  high-is : (c : ℕ) → guideOf bs .codeHigh c ≡ guideOf bs .codeByte c 3 + 256 * guideOf bs .codeByte c 4 + 65536 * (guideOf bs .codeByte c 5 + 256 * guideOf bs .codeEnd c)
-  unfolding guideOf
-  high-is c =
-      let at = codeAt bs c in
-      let a = byte (at + 4) (at + (1 + 3)) (omega arith) in
-      let b = byte (at + 4 + 1) (at + (1 + 4)) (omega arith) in
-      let d = byte (at + 4 + 2) (at + (1 + 5)) (omega arith) in
-      let e = byte (at + 4 + 2 + 1) (at + 7) (omega arith) in
-      omega arith
 
 module _ (bs : List ℕ) (good : GoodBook bs) where
   length-within : (c : ℕ) → c < guideOf bs .codes → (1 ≤ guideOf bs .codeLength c) × (guideOf bs .codeLength c ≤ 6)
@@ -84,7 +60,7 @@ module _ (bs : List ℕ) (good : GoodBook bs) where
         let x = same-byte 0 (p .0) (q .0) in
         let y = same-byte 1 (p .1) (q .1) in
         let z = same-byte 2 (p .2) (q .2) in
-        omega (arith, low-is bs c, low-is bs d)
+        omega (arith, code-low-bytes bs c, code-low-bytes bs d)
 
     same-high : guideOf bs .codeHigh c ≡ guideOf bs .codeHigh d
     same-high =
@@ -93,7 +69,7 @@ module _ (bs : List ℕ) (good : GoodBook bs) where
         let y = same-byte 4 (p .4) (q .4) in
         let z = same-byte 5 (p .5) (q .5) in
         let v = ends-in-zero c hc in let w = ends-in-zero d hd in
-        omega (arith, high-is bs c, high-is bs d)
+        omega (arith, code-high-bytes bs c, code-high-bytes bs d)
 
   -- the law: no value is a code of both lines
   pub no-common-code : (l m c d : ℕ) → 1 ≤ l → l < m → m ≤ guideOf bs .lines → Holds (sameTagRule (guideOf bs) l m)

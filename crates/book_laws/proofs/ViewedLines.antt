@@ -3,18 +3,18 @@ use Prim.Native.Nat.{ℕ, zero, suc, _+_, _*_, _≤_, _<_}
 use native.Mathlib.Omega.{arith}
 use native.Mathlib.Decide.{decLt}
 use native.Mathlib.Numerals.{add-one}
-use mathlib.Core.Path.{_≡_, refl, ap}
+use mathlib.Core.Path.{_≡_, refl}
 use mathlib.Core.List.{List, [], _∷_, map, List·Memᴰ, List·Memᴰ·not-nil, List·Memᴰ·cases-cons, List·Memᴰ·eq-of-singleton, Memᴰ·of-map}
 use mathlib.Core.Logic.{_⊎_, inl, inr, dite, _↔_}
 use mathlib.Core.Bool.{true, false}
 use lib.ListN.{length, getD, length-take}
 use borrow.Author.Tests.{eq-eqb, ne-eqb, eqb-true, eqb-false}
-use Rattle.guide.specs.meaning.Numbers.{byteAt}
 use Rattle.guide.specs.meaning.Words.{segmentKind, groupKind, withElementPresence, textForm, numberForm}
 use Rattle.book.specs.meaning.Rule.{Holds, _or_}
-use Rattle.guide.specs.meaning.Guide.{Guide, guideOf, lineAt}
+use Rattle.guide.specs.meaning.Guide.{Guide, guideOf}
 use Rattle.book.specs.meaning.GoodBook.{GoodBook, capital, digit, tagRule, tagByteRule, selectorRule, codeRule, fieldRule, fieldPlace, rangeRule}
 use Rattle.guide.specs.meaning.View.{numbersFrom, codeValue, Field, fieldOf, lineOf}
+use Rattle.guide.proofs.WideNumbers.{tag-bytes}
 use Rattle.book_laws.proofs.Clauses.{line-kind, line-depth, line-tag, line-required, line-selector, line-codes, line-maximum, line-fields, group-is-plain, fields-rise, code-rule, field-rule}
 
 -- ---- what stands in a list of records is one of them
@@ -158,12 +158,7 @@ module _ (bs : List ℕ) (good : GoodBook bs) where
 pub tag-number : (bs : List ℕ) (l : ℕ)
     → guideOf bs .tag l
     ≡ getD (lineOf (guideOf bs) l .tag) 0 0 + 256 * getD (lineOf (guideOf bs) l .tag) 1 0 + 65536 * getD (lineOf (guideOf bs) l .tag) 2 0
-unfolding guideOf
-tag-number bs l =
-    let a : byteAt bs (lineAt bs l + 2) ≡ byteAt bs (lineAt bs l + (2 + 0)) = ap (byteAt bs) (omega arith) in
-    let b : byteAt bs (lineAt bs l + 2 + 1) ≡ byteAt bs (lineAt bs l + (2 + 1)) = ap (byteAt bs) (omega arith) in
-    let c : byteAt bs (lineAt bs l + 4) ≡ byteAt bs (lineAt bs l + (2 + 2)) = ap (byteAt bs) (omega arith) in
-    omega arith
+tag-number bs l = tag-bytes bs l
 
 module _ (bs : List ℕ) (good : GoodBook bs) (l : ℕ) (from : 1 ≤ l) (to : l ≤ guideOf bs .lines) where
   -- 01: "kind (1 segment, 2 group)"

@@ -15,9 +15,9 @@ use Rattle.reading.specs.meaning.WellFormed.{WellFormed, SegmentAt}
 use Rattle.reading.specs.declared.service.Service.{Service}
 use Rattle.reading_laws.proofs.Cursors.{written-at}
 use Rattle.placing.specs.meaning.Fitting.{homeOf}
-use Rattle.placing.specs.meaning.Placement.{occurrences}
+use Rattle.placing_laws.specs.laws.Occurrences.{occurrences}
 use Rattle.reading.specs.meaning.Starts.{startsIn, startsOf}
-use Rattle.judging.specs.method.Table.{placeFrom}
+use Rattle.placing.specs.method.Tables.{placeFrom}
 use Rattle.demands.specs.meaning.Table.{IsOf}
 
 -- there is one at most

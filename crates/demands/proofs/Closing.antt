@@ -17,7 +17,7 @@ use Rattle.framing.specs.meaning.Record.{place, verdict, answer, numbersOf}
 use Rattle.judging.specs.meaning.Tables.{isRefusal, Tables, roomOf}
 use Rattle.framing.specs.declared.verdict.Verdict.{Verdict}
 use Rattle.placing.specs.method.Passes.{homesFrom}
-use Rattle.judging.specs.meaning.Answers.{fieldsVerdict, rowsVerdict}
+use Rattle.judging.specs.method.Answers.{fieldsVerdict, rowsVerdict}
 use Rattle.fields.specs.method.Testing.{firstFault}
 use Rattle.fields.specs.declared.passes.FirstFault.{FirstFault}
 use Rattle.fields.specs.declared.passes.FirstFault.the-variants.{At, Clean}
@@ -30,7 +30,7 @@ use Rattle.rules.specs.declared.identifier.Identified.{Identified}
 use Rattle.rules.specs.declared.identifier.Identified.the-variants.{Known, Foreign}
 use Rattle.judging.proofs.Decided.{refusal-number}
 use Rattle.judging.specs.method.Table.{refusal, identifierIn, identifierVerdict, placedStage, judged, tablesAfter}
-use Rattle.tracksaddle.specs.meaning.Door.{asManyAsFit}
+use Rattle.slices.specs.meaning.Lent.{asManyAsFit}
 use Rattle.tracksaddle.proofs.tracksaddle_judge.Reads as judge
 use Rattle.demands.proofs.DoorMeans.{whole-record}
 use Rattle.demands.specs.meaning.Demands.{HoldTree, Demand1, Demand2, Demand3}
@@ -257,6 +257,10 @@ module _ (h : Handed) (l : Left) (p : Promised h l) where
                     (shown-is (knowing (d .0) h) (o .0) (given (knowing (d .0) h) (o .0) (o .1)) room (verdictOn (knowing (d .1) h)) .1 e)
                     (shown-is (knowing (d .1) h) (u .0) (given (knowing (d .1) h) (u .0) (u .1)) room (verdictOn (knowing (d .1) h)) .1 refl),
               ),
+        );
+        fillings-agree = λ v n. (
+          λ t fs f. demand-2 (knowing fs h) .fault v .0 (demand-3 h .sure (h .conditions) v n .0 (demand-2 h .fault v .1 t) fs f),
+          λ all. demand-2 h .fault v .0 (demand-3 h .sure (h .conditions) v n .1 (λ fs f. demand-2 (knowing fs h) .fault v .1 (all fs f))),
         );
         fillings-differ = (
           λ e. let d = demand-3 h .unsure (h .conditions) .0 (sym (g .number) ∙ e) in (

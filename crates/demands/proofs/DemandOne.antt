@@ -2,7 +2,7 @@
 use Prim.Native.Nat.{ℕ, zero, suc, _≤_, _<_}
 use native.Mathlib.Omega.{arith}
 use mathlib.Core.Path.{_≡_, refl, sym, ap, _∙_}
-use mathlib.Core.List.{List, [], _∷_, _++_, map}
+use mathlib.Core.List.{List, [], _∷_, _++_}
 use mathlib.Core.Bool.{Bool, true, false, true≢false, cond}
 use lib.Dec.{eqb}
 use lib.ListN.{length, drop}
@@ -11,11 +11,12 @@ use Rattle.guide.specs.meaning.Guide.{guideOf}
 use Rattle.book.specs.meaning.GoodBook.{GoodBook}
 use Rattle.reading.specs.meaning.Service.{GoodService}
 use Rattle.reading.specs.meaning.Message.{Message}
-use Rattle.reading.specs.meaning.WellFormed.{WellFormed, Outcome, Segments, BadAt}
+use Rattle.reading.specs.meaning.WellFormed.{WellFormed}
+use Rattle.reading.specs.method.Outcome.{Outcome, Segments, BadAt}
 use Rattle.reading.specs.declared.service.Service.{Service}
 use Rattle.reading_laws.proofs.Accepting.{accepts}
 use Rattle.guide.specs.meaning.View.{lineOf}
-use Rattle.placing.specs.meaning.Fitting.{fits, homeOf}
+use Rattle.placing.specs.meaning.Fitting.{fits, homeOf, homesIn}
 use Rattle.placing.specs.meaning.Answers.{HaveHomes}
 use Rattle.placing.specs.method.Passes.{startsTable, homesTable, parentsTable}
 use Rattle.placing_laws.proofs.Homes.{home-fits}
@@ -33,7 +34,7 @@ use Rattle.rules.specs.meaning.Conditions.{Fills, Learns}
 
 -- ---- homes are lines that the segments fit
 
-pub homes-fit : (s : Service) (book : List ℕ) → GoodBook book → (m : Message) → HaveHomes (map (homeOf (guideOf book)) m) → Fit s book m (map (homeOf (guideOf book)) m)
+pub homes-fit : (s : Service) (book : List ℕ) → GoodBook book → (m : Message) → HaveHomes (homesIn book m) → Fit s book m (homesIn book m)
 homes-fit s book good [] a = tt
 homes-fit s book good (x ∷ xs) a =
     let h = go (homeOf (guideOf book) x) refl (a 0 (omega arith)) in (h .0, h .1, h .2, homes-fit s book good xs (λ j i. a (suc j) (omega arith)))
@@ -82,7 +83,7 @@ module _ (s : Service) (service : GoodService s) (bs book : List ℕ) (t : Table
     holds =
         record {
           well-formed = c .well-formed;
-          placed-on = map (homeOf (guideOf book)) (c .well-formed .message);
+          placed-on = homesIn book (c .well-formed .message);
           fit = homes-fit s book (c .good) (c .well-formed .message) (c .have-homes);
           placed = c .placed;
           starts =

@@ -3,7 +3,7 @@
 use Prim.Native.Nat.{ℕ, suc}
 use native.Mathlib.Omega.{arith}
 use mathlib.Core.Path.{_≡_, refl, sym, ap, ap₂, _∙_}
-use mathlib.Core.List.{List, [], _∷_, map}
+use mathlib.Core.List.{List, [], _∷_}
 use mathlib.Core.Bool.{Bool, true, false, cond, _&&_}
 use mathlib.Core.Logic.{_↔_}
 use lib.Dec.{eqb, leb}
@@ -18,7 +18,7 @@ use Rattle.fields.specs.method.Testing.{firstFault}
 use Rattle.fields.specs.declared.passes.FirstFault.{FirstFault}
 use Rattle.fields.specs.declared.passes.FirstFault.the-variants.{At, Clean}
 use Rattle.rules.specs.meaning.Conditions.{Chosen, Fills, Learned, Learns}
-use Rattle.rules.specs.method.FirstFound.{firstRow}
+use Rattle.rules_laws.specs.laws.FirstFound.{firstRow}
 use Rattle.rules.specs.method.Identifiers.{identified}
 use Rattle.rules.specs.declared.finding.Finding.{Finding}
 use Rattle.rules.specs.declared.finding.Finding.the-variants.{Kept, Broken, Unsettled}
@@ -27,8 +27,9 @@ use Rattle.rules.specs.declared.identifier.Identified.the-variants.{Known, Fore
 use Rattle.rules_laws.proofs.SureOrOpen.{IsUnsettled, settled, unsettled, later, inhabited}
 use Rattle.framing.specs.meaning.Record.{place, verdict, answer}
 use Rattle.framing.specs.method.Stages.{orElse, messageStage}
-use Rattle.judging.specs.method.Table.{bookStage, areKnown, placingStage, refusal, identifierIn, identifierVerdict, placedVerdict, placedStage, judged}
-use Rattle.judging.specs.meaning.Answers.{rowsVerdict, fieldsVerdict}
+use Rattle.rules.specs.method.Conditions.{areTruthValues}
+use Rattle.judging.specs.method.Table.{bookStage, placingStage, refusal, identifierIn, identifierVerdict, placedVerdict, placedStage, judged}
+use Rattle.judging.specs.method.Answers.{rowsVerdict, fieldsVerdict}
 use Rattle.demands.specs.meaning.Demands.{Demand3}
 use Rattle.framing.specs.declared.message.Room.{Room}
 use Rattle.framing.specs.declared.verdict.Verdict.{Verdict}
@@ -36,7 +37,7 @@ use Rattle.judging.proofs.Decided.{low-refusal}
 use Rattle.demands.proofs.NotRefused.{Clear, clear}
 use Rattle.demands.proofs.RowsOnTree.{rows-on-tree}
 use Rattle.reading.specs.meaning.Service.{GoodService}
-use Rattle.placing.specs.meaning.Fitting.{homeOf}
+use Rattle.placing.specs.meaning.Fitting.{homesIn}
 use Rattle.placing.specs.meaning.Placement.{parentsOf}
 use Rattle.placing_laws.proofs.Messages.{found-homes}
 use Rattle.rules.specs.method.Scanning.{scannedRow}
@@ -73,8 +74,8 @@ learned-known : (b : Bool) (c d : ℕ) → eqb c 2 ≡ b → Learned b c d → l
 learned-known true c d e h = let z = eqb-true c 2 e in le-leb d 2 h ∙ sym (le-leb c 2 (omega arith))
 learned-known false c d e h = ap (λ (x : ℕ). leb x 2) h
 
-learns-known : (cs ds : List ℕ) → Learns cs ds → areKnown ds ≡ areKnown cs
-unfolding areKnown
+learns-known : (cs ds : List ℕ) → Learns cs ds → areTruthValues ds ≡ areTruthValues cs
+unfolding areTruthValues
 learns-known [] [] h = refl
 learns-known [] (d ∷ ds) h = absurd h
 learns-known (c ∷ cs) [] h = absurd h
@@ -218,7 +219,7 @@ module _ (s : Service) (service : GoodService s) (bs book : List ℕ) (room : Ro
       c : Clear s bs book room (refusal s bs book cs room)
       c = clear s service bs book cs room z
 
-      homes-are : hs ≡ map (homeOf (guideOf book)) (c .well-formed .message)
+      homes-are : hs ≡ homesIn book (c .well-formed .message)
       homes-are =
           ap (λ (v : Verdict). homesFrom s bs book (v .place .at) 0) (c .same) ∙ found-homes s service bs (c .well-formed) book (c .good)
 
@@ -227,7 +228,7 @@ module _ (s : Service) (service : GoodService s) (bs book : List ℕ) (room : Ro
       ps = parentsOf (c .placed .tree)
 
       rows-are : (p : ℕ) → identified (guideOf book) (identifierIn s (guideOf book) bs starts hs) ≡ Known p → (ds : List ℕ)
-          → scannedRow (guideOf book) p ds hs ≡ firstRow (guideOf book) p ds (map (homeOf (guideOf book)) (c .well-formed .message)) ps
+          → scannedRow (guideOf book) p ds hs ≡ firstRow (guideOf book) p ds (homesIn book (c .well-formed .message)) ps
       rows-are p j ds =
           ap (scannedRow (guideOf book) p ds) homes-are
           ∙ rows-on-tree s service bs book (c .good) (c .well-formed) (c .placed) p (identified-known (guideOf book) (identifierIn s (guideOf book) bs starts hs) p j .0) ds
@@ -240,7 +241,7 @@ module _ (s : Service) (service : GoodService s) (bs book : List ℕ) (room : Ro
           let fixed : (ds : List ℕ) → Learns cs ds → J ds ≡ answer 13 _ = λ ds x. each ds x ∙ ap₂ (λ (f : FirstFault) (i : Identified). fieldsVerdict f (identifierVerdict (guideOf book) ds n hs i)) h j in
           constant J cs (λ ds x. fixed ds x ∙ sym (fixed cs (learns-self cs))) (λ y. let q = ap (λ (v : Verdict). v .number) (sym (fixed cs (learns-self cs))) ∙ y in omega arith)
       placed-keep Clean h (Known p) j =
-          rows-keep book (c .good) p n (map (homeOf (guideOf book)) (c .well-formed .message)) ps J cs
+          rows-keep book (c .good) p n (homesIn book (c .well-formed .message)) ps J cs
           (λ ds x. each ds x ∙ ap₂ (λ (f : FirstFault) (i : Identified). fieldsVerdict f (identifierVerdict (guideOf book) ds n hs i)) h j ∙ ap (rowsVerdict n) (rows-are p j ds))
 
     keeps : Keeps J cs

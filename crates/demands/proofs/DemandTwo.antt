@@ -3,7 +3,7 @@
 use Prim.Native.Nat.{ℕ, zero, suc, _<_}
 use native.Mathlib.Omega.{arith}
 use mathlib.Core.Path.{_≡_, refl, sym, ap, ap₂, _∙_, subst}
-use mathlib.Core.List.{List, [], _∷_, map}
+use mathlib.Core.List.{List, [], _∷_}
 use mathlib.Core.Bool.{Bool, true, false, true≢false}
 use mathlib.Core.Logic.{_↔_, inl, inr}
 use lib.ListN.{length, getD}
@@ -15,19 +15,19 @@ use Rattle.reading.specs.meaning.Message.{Message, writeSegments, render}
 use Rattle.reading.specs.meaning.WellFormed.{WellFormed}
 use Rattle.reading.specs.declared.service.Service.{Service}
 use Rattle.guide.specs.meaning.Plan.{planIn}
-use Rattle.placing.specs.meaning.Fitting.{homeOf}
+use Rattle.placing.specs.meaning.Fitting.{homesIn}
 use Rattle.placing.specs.meaning.Placement.{parentsOf}
 use Rattle.placing_laws.proofs.Homes.{fits-home}
 use Rattle.fields.specs.meaning.Number.{GoodMark}
 use Rattle.rules.specs.meaning.Conditions.{Assignment, isUnknown, told, Filling}
-use Rattle.rules.specs.meaning.Entries.{Entry, entriesOf}
+use Rattle.rules.specs.meaning.Entries.{Entry, entriesOf, SomeBreaks}
 use Rattle.rules_laws.proofs.Fillings.{Agree}
 use Rattle.rules_laws.proofs.Keys.{Looks, looks}
 use Rattle.rules_laws.proofs.OnTree.{rules-on-tree}
 use Rattle.framing.specs.meaning.Record.{answer}
 use Rattle.judging.specs.method.Table.{judged}
 use Rattle.framing.specs.meaning.Table.{NoneWrong, Misplaced, TellsCount, TellsReference, MessageSays}
-use Rattle.demands.specs.meaning.Table.{FitConditions, SomeBreaks, RowsSay, PlacedSays, HomesSay, TableSays}
+use Rattle.demands.specs.meaning.Table.{FitConditions, RowsSay, PlacedSays, HomesSay, TableSays}
 use Rattle.demands.specs.meaning.Demands.{Fit, Accepted, WithinLimits, Demand2}
 use Rattle.framing.specs.declared.message.Room.{Room}
 use Rattle.framing.specs.declared.verdict.Verdict.{Verdict}
@@ -84,7 +84,7 @@ some-bytes s (g ∷ gs) h = omega arith
 
 -- ---- the lines that segments fit are their homes
 
-fit-homes : (s : Service) (book : List ℕ) → GoodBook book → (m : Message) (hs : List ℕ) → Fit s book m hs → map (homeOf (guideOf book)) m ≡ hs
+fit-homes : (s : Service) (book : List ℕ) → GoodBook book → (m : Message) (hs : List ℕ) → Fit s book m hs → homesIn book m ≡ hs
 fit-homes s book good [] [] f = refl
 fit-homes s book good [] (h ∷ hs) f = absurd f
 fit-homes s book good (x ∷ xs) [] f = absurd f
@@ -98,24 +98,21 @@ module _ (s : Service) (service : GoodService s) (mark : GoodMark s) (bs book cs
     -- ---- what number 0 says
 
     module _ (w : WellFormed s bs) where
-      abbrev hs : List ℕ
-      hs = map (homeOf (guideOf book)) (w .message)
-
       from-homes : NoneWrong (Misplaced (length (w .message))) 0 (w .message) → TellsCount (w .message) → TellsReference (w .message)
-          → HomesSay s bs book cs room (w .message) hs (answer 0 n) → Accepted s bs book (told cs) n
+          → HomesSay s bs book cs room (w .message) (homesIn book (w .message)) (answer 0 n) → Accepted s bs book (told cs) n
       from-homes framed count reference (inl (k, f, e)) = absurd (not-zero n _ e (omega arith))
       from-homes framed count reference (inr (have, inl (k, f, e))) = absurd (not-zero n _ e (omega arith))
       from-homes framed count reference (inr (have, inr (t, inl (p, f, e)))) = absurd (not-zero n _ e (omega arith))
       from-homes framed count reference (inr (have, inr (t, inr (none, (k, value, carries, inl (o, e)))))) = absurd (not-zero n _ e (omega arith))
       from-homes framed count reference (inr (have, inr (t, inr (none, (k, value, carries, inr (p, i, rows)))))) =
-          let r = rows-kept cs n (length (w .message)) (entriesOf (guideOf book) p hs (parentsOf (t .tree))) rows in
+          let r = rows-kept cs n (length (w .message)) (entriesOf (guideOf book) p (homesIn book (w .message)) (parentsOf (t .tree))) rows in
           record {
             well-formed = w;
             count = r .1;
             framed = subst (λ (x : ℕ). NoneWrong (Misplaced x) 0 (w .message)) (r .1) framed;
             tells-count = count;
             tells-reference = reference;
-            placed-on = hs;
+            placed-on = homesIn book (w .message);
             fit = homes-fit s book good (w .message) have;
             placed = t;
             fields = none;
@@ -124,10 +121,10 @@ module _ (s : Service) (service : GoodService s) (mark : GoodMark s) (bs book cs
             carries = carries;
             identifier = p;
             in-book = i;
-            rules = rules-on-tree book good p (told cs) hs t .1 (r .0);
+            rules = rules-on-tree book good p (told cs) (homesIn book (w .message)) t .1 (r .0);
           }
 
-      from-message : MessageSays s bs room (λ x. HomesSay s bs book cs room x (map (homeOf (guideOf book)) x)) (w .message) (answer 0 n) → Accepted s bs book (told cs) n
+      from-message : MessageSays s bs room (λ x. HomesSay s bs book cs room x (homesIn book x)) (w .message) (answer 0 n) → Accepted s bs book (told cs) n
       from-message (inl (x, e)) = absurd (not-zero n _ e (omega arith))
       from-message (inr (few, inl (x, e))) = absurd (not-zero n _ e (omega arith))
       from-message (inr (few, inr (roomy, inl (k, f, e)))) = absurd (not-zero n _ e (omega arith))
@@ -148,7 +145,7 @@ module _ (s : Service) (service : GoodService s) (mark : GoodMark s) (bs book cs
       abbrev w : WellFormed s bs
       w = a .well-formed
 
-      homes-are : map (homeOf (guideOf book)) (w .message) ≡ a .placed-on
+      homes-are : homesIn book (w .message) ≡ a .placed-on
       homes-are = fit-homes s book good (w .message) (a .placed-on) (a .fit)
 
       placed-says : PlacedSays s bs book cs room (w .message) (a .placed-on) (parentsOf (a .placed .tree)) (answer 0 n)
@@ -170,7 +167,7 @@ module _ (s : Service) (service : GoodService s) (mark : GoodMark s) (bs book cs
             ),
           )
 
-      homes-say : HomesSay s bs book cs room (w .message) (map (homeOf (guideOf book)) (w .message)) (answer 0 n)
+      homes-say : HomesSay s bs book cs room (w .message) (homesIn book (w .message)) (answer 0 n)
       homes-say =
           subst (λ (xs : List ℕ). HomesSay s bs book cs room (w .message) xs (answer 0 n)) (sym homes-are)
           (inr (placed-have (planIn book) (a .placed-on) (a .placed), inr (a .placed, placed-says)))

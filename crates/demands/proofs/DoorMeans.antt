@@ -1,28 +1,39 @@
 -- What the exported calls mean, under the standard service characters: a component lies where 01 says, and what is written into a
 -- lent table is 01's "as many as fit, with nothing else there changed".
 use Prim.Native.Nat.{ℕ, suc, _≤_}
-use mathlib.Core.Path.{_≡_, refl, ap, _∙_}
+use mathlib.Core.Path.{_≡_, refl, sym, ap, _∙_}
 use mathlib.Core.List.{List, [], _∷_}
 use lib.ListN.{length, take, drop}
 use lib.Seq.{take-all}
 use Rattle.framing.specs.meaning.Record.{numbersOf}
 use Rattle.framing.specs.declared.verdict.Verdict.{Verdict}
 use Rattle.reading.specs.meaning.Service.{standard}
-use Rattle.reading.specs.meaning.Component.{ComponentPlace, Lies, spanOf}
+use Rattle.reading.specs.meaning.Component.{ComponentPlace, spanOf}
 use Rattle.reading.specs.method.Machine.{componentSpan}
 use Rattle.reading.specs.declared.span.Span.{Span}
 use Rattle.reading_laws.proofs.Services.{good-standard}
 use Rattle.reading_laws.proofs.Spans.{lies, lies-at}
-use Rattle.tracksaddle.specs.meaning.Door.{asManyAsFit, partNumbers}
+use Rattle.slices.specs.meaning.Lent.{asManyAsFit}
+use Rattle.tracksaddle.specs.meaning.Door.{partNumbers}
+use Rattle.demands.specs.meaning.Lookup.{Sought, Promised, LiesAt, Lookup}
 
--- the table that `tracksaddle_find_component` promises holds the place where the component lies
-pub find-component-means : (message table : List ℕ) (at e c : ℕ) (p : ComponentPlace) → Lies standard message at e c p
-    → asManyAsFit (partNumbers (componentSpan standard message at e c)) table ≡ asManyAsFit (partNumbers (spanOf (length message) p)) table
-find-component-means message table at e c p l = ap (λ (x : Span). asManyAsFit (partNumbers x) table) (lies-at standard good-standard message at e c p l)
+module _ (s : Sought) (after : List ℕ) (p : Promised s after) where
+  promised : asManyAsFit (partNumbers (componentSpan standard (p .passed .0 .now) (p .passed .1 .0) (p .passed .1 .1 .0) (p .passed .1 .1 .1 .0))) (p .passed .1 .1 .1 .1 .0 .now)
+      ≡ asManyAsFit (partNumbers (componentSpan standard (s .message) (s .at) (s .element) (s .component))) (s .part)
+  promised i = asManyAsFit (partNumbers (componentSpan standard (p .message i) (p .at i) (p .element i) (p .component i))) (p .part-before i)
 
--- and it lies somewhere, whatever the bytes and the numbers
-pub component-lies : (message : List ℕ) (at e c : ℕ) → (p : ComponentPlace) × Lies standard message at e c p
-component-lies = lies standard good-standard
+  part-there : (k : ComponentPlace) → LiesAt s k → after ≡ asManyAsFit (partNumbers (spanOf (length (s .message)) k)) (s .part)
+  part-there k l =
+      sym (p .part-after) ∙ p .promise ∙ promised
+      ∙ ap (λ (x : Span). asManyAsFit (partNumbers x) (s .part)) (lies-at standard good-standard (s .message) (s .at) (s .element) (s .component) k l)
+
+pub lookup : Lookup
+lookup =
+    record {
+      asks-nothing = λ κs a. tt;
+      lies = λ s. lies standard good-standard (s .message) (s .at) (s .element) (s .component);
+      part = part-there;
+    }
 
 -- the first entries are the numbers, as many as there are entries
 pub front-fits : (numbers table : List ℕ) → take (length numbers) (asManyAsFit numbers table) ≡ take (length table) numbers

@@ -10,11 +10,12 @@ use Rattle.reading.specs.declared.service.Service.{Service}
 use Rattle.guide.specs.meaning.Plan.{planIn}
 use Rattle.placing.specs.method.Passes.{homesFrom, tested}
 use Rattle.placing.specs.declared.passes.Placing.{Placing}
-use Rattle.placing.specs.declared.passes.Placing.the-variants.{Begins, NoHome, Stops}
 use Rattle.framing.specs.meaning.Record.{answer}
 use Rattle.framing.specs.method.Stages.{messageStage}
-use Rattle.judging.specs.method.Table.{isGood, bookStage, areKnown, conditionsStage, placingStage, refusal, placedStage, judged}
-use Rattle.judging.specs.meaning.Answers.{placingVerdict}
+use Rattle.rules.specs.method.Conditions.{areTruthValues}
+use Rattle.book.specs.method.Each.{isGood}
+use Rattle.judging.specs.method.Table.{bookStage, conditionsStage, placingStage, refusal, placedStage, judged}
+use Rattle.judging.specs.method.Answers.{placingVerdict}
 use Rattle.framing.specs.declared.message.Room.{Room}
 use Rattle.framing.specs.declared.verdict.Verdict.{Verdict}
 use Rattle.framing_laws.proofs.InStages.{then, then-then, then-good}
@@ -25,26 +26,19 @@ module _ (s : Service) (bs book cs : List ℕ) (room : Room) where
 
   -- ---- what is answered behind number 9
 
+  abbrev placed : Verdict → Verdict
+  placed r = placedStage s bs book cs (r .place .at)
+
   abbrev pub ofPlacing : ℕ → Placing → Verdict
-  ofPlacing n Begins = placedStage s bs book cs n
-  ofPlacing n (NoHome k) = answer 10 k
-  ofPlacing n (Stops k) = answer 11 k
+  ofPlacing n p = then (placingVerdict n p) placed
 
   abbrev pub ofHomes : ℕ → Verdict
   ofHomes n = ofPlacing n (tested (planIn book) (homes n))
 
-  abbrev placed : Verdict → Verdict
-  placed r = placedStage s bs book cs (r .place .at)
-
-  placing-then : (n : ℕ) (p : Placing) → then (placingVerdict n p) placed ≡ ofPlacing n p
-  placing-then n Begins = refl
-  placing-then n (NoHome k) = refl
-  placing-then n (Stops k) = refl
-
   -- ---- stage by stage
 
   abbrev fit : Bool
-  fit = eqb (length cs) (guideOf book .conditions) && areKnown cs
+  fit = eqb (length cs) (guideOf book .conditions) && areTruthValues cs
 
   abbrev pub ofMessage : Verdict
   ofMessage = then (messageStage s bs room) (λ m. ofHomes (m .place .at))
@@ -55,11 +49,6 @@ module _ (s : Service) (bs book cs : List ℕ) (room : Room) where
   abbrev placing : Verdict → Verdict
   placing m = placingStage s bs book (m .place .at)
 
-  message-then : then (then (messageStage s bs room) placing) placed ≡ ofMessage
-  message-then =
-      then-then (messageStage s bs room) placing placed
-      ∙ ap (then (messageStage s bs room)) (λ i m. placing-then (m .place .at) (tested (planIn book) (homes (m .place .at))) i)
-
   -- the law
   pub in-order : judged s bs book cs room ≡ cond (isGood book) ofConditions (answer 1 0)
   unfolding judged refusal
@@ -69,4 +58,4 @@ module _ (s : Service) (bs book cs : List ℕ) (room : Room) where
       ∙ ap (λ (z : Verdict). cond (isGood book) z (answer 1 0))
       (then-then (conditionsStage (guideOf book) cs) (λ _. then (messageStage s bs room) placing) placed
       ∙ then-good fit (answer 2 0) (answer 0 0) (λ _. then (then (messageStage s bs room) placing) placed) refl refl
-      ∙ ap (λ (z : Verdict). cond fit z (answer 2 0)) message-then)
+      ∙ ap (λ (z : Verdict). cond fit z (answer 2 0)) (then-then (messageStage s bs room) placing placed))

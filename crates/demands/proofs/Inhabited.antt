@@ -8,9 +8,9 @@ use lib.ListN.{length}
 use Rattle.guide.specs.meaning.Guide.{guideOf}
 use Rattle.book_laws.proofs.Bytes.{k}
 use Rattle.book_laws.proofs.Inhabited.{k-is-good}
-use Rattle.reading.specs.meaning.Limits.{mostBytes, mostSegments}
+use Rattle.framing.specs.meaning.Limits.{mostBytes, mostSegments}
 use Rattle.reading.specs.meaning.Service.{standard, isData, isTagByte}
-use Rattle.reading.specs.meaning.WellFormed.{Segments}
+use Rattle.reading.specs.method.Outcome.{Segments}
 use Rattle.reading.specs.method.Machine.{kindOf, scanOn, scanned}
 use Rattle.reading.proofs.Scanning.{segments-is}
 use Rattle.reading_laws.proofs.Accepting.{accepts}

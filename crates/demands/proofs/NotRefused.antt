@@ -2,18 +2,17 @@
 use Prim.Native.Nat.{ℕ, _≤_}
 use native.Mathlib.Omega.{arith}
 use mathlib.Core.Path.{_≡_, sym, ap, _∙_, subst}
-use mathlib.Core.List.{List, map}
+use mathlib.Core.List.{List}
 use lib.ListN.{length}
 use borrow.Author.Tests.{leb-true}
-use Rattle.guide.specs.meaning.Guide.{guideOf}
 use Rattle.book.specs.meaning.GoodBook.{GoodBook}
-use Rattle.reading.specs.meaning.Limits.{mostBytes, mostSegments}
+use Rattle.framing.specs.meaning.Limits.{mostBytes, mostSegments}
 use Rattle.reading.specs.meaning.Service.{GoodService}
 use Rattle.reading.specs.meaning.WellFormed.{WellFormed}
 use Rattle.reading.specs.declared.service.Service.{Service}
 use Rattle.reading_laws.proofs.FirstBad.{scan-accepts}
 use Rattle.guide.specs.meaning.Plan.{planIn}
-use Rattle.placing.specs.meaning.Fitting.{homeOf}
+use Rattle.placing.specs.meaning.Fitting.{homesIn}
 use Rattle.placing.specs.meaning.Placement.{Placed}
 use Rattle.placing.specs.meaning.Answers.{HaveHomes}
 use Rattle.placing.specs.method.Passes.{homesFrom, tested}
@@ -23,11 +22,12 @@ use Rattle.placing_laws.proofs.Messages.{found-homes}
 use Rattle.placing_laws.proofs.Stopping.{tested-allowed}
 use Rattle.framing.specs.meaning.Record.{answer}
 use Rattle.framing.specs.method.Stages.{frameOf}
-use Rattle.judging.specs.method.Table.{isGood, refusal}
+use Rattle.book.specs.method.Each.{isGood}
+use Rattle.judging.specs.method.Table.{refusal}
 use Rattle.framing.specs.meaning.Table.{HasRoom}
 use Rattle.framing.specs.declared.message.Room.{Room}
 use Rattle.framing.specs.declared.verdict.Verdict.{Verdict}
-use Rattle.judging.proofs.Refusals.{good-exactly}
+use Rattle.book.proofs.Tested.{good-exactly}
 use Rattle.demands.proofs.TableTells.{framed-ends}
 use Rattle.framing.proofs.Messages.{sized-within}
 use Rattle.framing.proofs.Passing.{passes, fault, room-exactly}
@@ -41,8 +41,8 @@ pub record Clear (s : Service) (bs book : List ℕ) (room : Room) (v : Verdict) 
   pub well-formed : WellFormed s bs
   pub few : length (well-formed .message) ≤ mostSegments
   pub roomy : HasRoom room (length (well-formed .message))
-  pub have-homes : HaveHomes (map (homeOf (guideOf book)) (well-formed .message))
-  pub placed : Placed (planIn book) (map (homeOf (guideOf book)) (well-formed .message))
+  pub have-homes : HaveHomes (homesIn book (well-formed .message))
+  pub placed : Placed (planIn book) (homesIn book (well-formed .message))
   pub same : v ≡ answer 0 (length (well-formed .message))
 
 -- the book is good, whatever the service characters
@@ -62,9 +62,9 @@ module _ (s : Service) (service : GoodService s) (bs book cs : List ℕ) (room :
           let long : c .segments ≡ length (w .message) = sym (found .1) in
           let homes = found-homes s service bs w book good in
           let ends = framed-ends s service bs book good w (c .last) (ap (frameOf s bs) (sym long) ∙ c .frame) in
-          let begins : tested (planIn book) (map (homeOf (guideOf book)) (w .message)) ≡ Begins =
+          let begins : tested (planIn book) (homesIn book (w .message)) ≡ Begins =
           sym (ap (λ (k : ℕ). tested (planIn book) (homesFrom s bs book k 0)) long ∙ ap (tested (planIn book)) homes) ∙ stages .placing-passed in
-          let allowed = tested-allowed (planIn book) (structured book good) (map (homeOf (guideOf book)) (w .message)) ends .0 begins in
+          let allowed = tested-allowed (planIn book) (structured book good) (homesIn book (w .message)) ends .0 begins in
           let few' = leb-true (c .segments) mostSegments (c .few) in
           record {
             good = good;

@@ -2,7 +2,7 @@
 use Prim.Native.Nat.{ℕ, zero, suc, _+_, _-_, _≤_, _<_}
 use native.Mathlib.Omega.{arith}
 use mathlib.Core.Path.{_≡_, refl, sym, ap, ap₂, _∙_, subst}
-use mathlib.Core.List.{List, [], _∷_, map, append-nil}
+use mathlib.Core.List.{List, [], _∷_, append-nil}
 use mathlib.Core.Logic.{_↔_, inl, inr}
 use lib.ListN.{length, getD}
 use borrow.Author.Tests.{le-leb}
@@ -17,7 +17,7 @@ use Rattle.reading.specs.declared.service.Service.{Service}
 use Rattle.reading_laws.proofs.Values.{part-is-value}
 use Rattle.reading_laws.proofs.OneReading.{IsWord, raw-is-value, word-written}
 use Rattle.guide.specs.meaning.Plan.{Plan, planIn}
-use Rattle.placing.specs.meaning.Fitting.{homeOf}
+use Rattle.placing.specs.meaning.Fitting.{homesIn}
 use Rattle.placing.specs.meaning.Placement.{Placed, parentsOf}
 use Rattle.placing.specs.meaning.Answers.{HaveHomes}
 use Rattle.reading.specs.meaning.Starts.{startsOf}
@@ -41,7 +41,7 @@ use Rattle.rules_laws.proofs.Lines.{Homed, placed-homed}
 use Rattle.framing.specs.meaning.Record.{place, verdict, answer}
 use Rattle.framing.specs.method.Stages.{componentAt}
 use Rattle.judging.specs.method.Table.{carrierPlace, identifierIn, identifierVerdict, placedVerdict, placedStage}
-use Rattle.judging.specs.meaning.Answers.{rowsVerdict, fieldsVerdict}
+use Rattle.judging.specs.method.Answers.{rowsVerdict, fieldsVerdict}
 use Rattle.demands.specs.meaning.Table.{Carries, InBook, RowsSay, RulesSay, PlacedSays}
 use Rattle.framing.specs.declared.message.Room.{Room}
 use Rattle.framing.specs.declared.verdict.Place.{Place}
@@ -98,7 +98,7 @@ module _ (book : List ℕ) (good : GoodBook book) where
 -- ---- the stages
 
 module _ (s : Service) (service : GoodService s) (mark : GoodMark s) (bs book cs : List ℕ) (room : Room) (v : Verdict) (good : GoodBook book)
-    (w : WellFormed s bs) (t : Placed (planIn book) (map (homeOf (guideOf book)) (w .message))) where
+    (w : WellFormed s bs) (t : Placed (planIn book) (homesIn book (w .message))) where
   abbrev g : Guide
   g = guideOf book
 
@@ -109,7 +109,7 @@ module _ (s : Service) (service : GoodService s) (mark : GoodMark s) (bs book cs
   n = length (w .message)
 
   abbrev hs : List ℕ
-  hs = map (homeOf (guideOf book)) (w .message)
+  hs = homesIn book m
 
   abbrev ps : List ℕ
   ps = parentsOf (t .tree)

@@ -9,7 +9,7 @@ use Rattle.book.specs.meaning.GoodBook.{GoodBook}
 use Rattle.rules.specs.method.Scanning.{scannedRow}
 use Rattle.placing_laws.proofs.Structured.{structured}
 use Rattle.placing_laws.proofs.Noted.{tree}
-use Rattle.reading.specs.meaning.Limits.{mostBytes}
+use Rattle.framing.specs.meaning.Limits.{mostBytes}
 use Rattle.reading.specs.meaning.Service.{GoodService}
 use Rattle.reading.specs.meaning.Message.{Message, writeSegments, render}
 use Rattle.reading.specs.meaning.WellFormed.{WellFormed}
@@ -17,11 +17,11 @@ use Rattle.reading.specs.method.Machine.{scanned}
 use Rattle.reading.specs.declared.service.Service.{Service}
 use Rattle.reading_laws.proofs.Rendering.{segments-front, segments-append}
 use Rattle.guide.specs.meaning.Plan.{planIn}
-use Rattle.placing.specs.meaning.Fitting.{homeOf}
+use Rattle.placing.specs.meaning.Fitting.{homesIn}
 use Rattle.placing.specs.meaning.Placement.{Placed, parentsOf}
 use Rattle.reading.specs.meaning.Starts.{startsIn, startsOf}
 use Rattle.placing.specs.method.Passes.{entry}
-use Rattle.rules.specs.method.FirstFound.{firstRow}
+use Rattle.rules_laws.specs.laws.FirstFound.{firstRow}
 use Rattle.rules_laws.proofs.Scanned as rows
 
 -- ---- the entries of the starts table are the starts
@@ -49,10 +49,9 @@ module _ (s : Service) (service : GoodService s) where
 -- ---- the rows that the pass finds are those of the tree
 
 module _ (s : Service) (service : GoodService s) (bs book : List ℕ) (good : GoodBook book) (w : WellFormed s bs)
-    (t : Placed (planIn book) (map (homeOf (guideOf book)) (w .message))) where
-  abbrev hs : List ℕ
-  hs = map (homeOf (guideOf book)) (w .message)
-
-  pub rows-on-tree : (p : ℕ) → p < guideOf book .identifiers → (cs : List ℕ) → scannedRow (guideOf book) p cs hs ≡ firstRow (guideOf book) p cs hs (parentsOf (t .tree))
+    (t : Placed (planIn book) (homesIn book (w .message))) where
+  pub rows-on-tree : (p : ℕ) → p < guideOf book .identifiers → (cs : List ℕ)
+      → scannedRow (guideOf book) p cs (homesIn book (w .message)) ≡ firstRow (guideOf book) p cs (homesIn book (w .message)) (parentsOf (t .tree))
   rows-on-tree p h cs =
-      rows.scanned book good p h hs t cs ∙ ap (firstRow (guideOf book) p cs hs) (tree (planIn book) (structured book good) hs t)
+      rows.scanned book good p h (homesIn book (w .message)) t cs
+      ∙ ap (firstRow (guideOf book) p cs (homesIn book (w .message))) (tree (planIn book) (structured book good) (homesIn book (w .message)) t)

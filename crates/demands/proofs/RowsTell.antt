@@ -8,15 +8,16 @@ use mathlib.Core.Logic.{_↔_, inl, inr}
 use Rattle.reading.specs.meaning.Service.{All}
 use Rattle.fields.specs.meaning.Fields.{In, here, there}
 use Rattle.rules.specs.meaning.Conditions.{isUnknown}
-use Rattle.rules.specs.method.FirstFound.{some, every, firstUnknown, foundAmong}
-use Rattle.rules.specs.meaning.Entries.{Entry}
+use Rattle.rules.specs.method.Scanning.{firstUnknown}
+use Rattle.rules_laws.specs.laws.FirstFound.{some, every, foundAmong}
+use Rattle.rules.specs.meaning.Entries.{Entry, SomeBreaks, EveryBreaks}
 use Rattle.rules.specs.declared.finding.Finding.the-variants.{Broken, Unsettled}
 use Rattle.rules_laws.proofs.Fillings.{some-filling, every-filling}
 use Rattle.rules_laws.proofs.Findings.{Names, Lowest}
 use Rattle.rules_laws.proofs.Keys.{Looks}
 use Rattle.framing.specs.meaning.Record.{place, verdict}
-use Rattle.judging.specs.meaning.Answers.{rowsVerdict}
-use Rattle.demands.specs.meaning.Table.{SomeBreaks, EveryBreaks, LowestUnknown, RowsSay}
+use Rattle.judging.specs.method.Answers.{rowsVerdict}
+use Rattle.demands.specs.meaning.Table.{LowestUnknown, RowsSay}
 use Rattle.framing.specs.declared.verdict.Verdict.{Verdict}
 
 -- ---- the lowest unknown condition

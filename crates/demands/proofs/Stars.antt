@@ -4,6 +4,7 @@ use Prim.Native.Nat.{ℕ}
 use mathlib.Core.Path.{_≡_, refl}
 use mathlib.Core.List.{List, [], _∷_, _++_}
 use Rattle.book_laws.proofs.Bytes.{k}
+use Rattle.guide.specs.meaning.Edition.{editionNumbered}
 use Rattle.guide.specs.meaning.Guide.{guideOf}
 use Rattle.book.specs.method.Run.{all}
 use Rattle.book.specs.method.Each.{headerRule, recordsRule, homeRule, framedRule, lineRule, identifierRule, rowRule, structureRule}
@@ -14,7 +15,7 @@ use Rattle.reading.specs.method.Machine.{kindOf, scanOn, endOn, isHere, seekOn}
 use Rattle.placing.specs.meaning.Fitting.{least}
 use Rattle.placing.specs.method.Fitting.{isSelectedAt, fitsAt}
 use Rattle.guide.specs.method.Codes.{spells, isCode, isAnyCode}
-use Rattle.guide.specs.meaning.Plan.{target}
+use Rattle.guide.specs.method.Targets.{target}
 use Rattle.placing.specs.method.Walking.{isPlaceable, isClear, isPassed, canCloseAll, admits, stacked, advanced, walked}
 use Rattle.placing.specs.method.Tree.{openedBy, noted}
 use Rattle.guide.specs.meaning.Tree.{climb}
@@ -25,14 +26,15 @@ use Rattle.fields.specs.meaning.Number.{figures}
 use Rattle.fields.specs.method.Number.{startsDigit, afterDigits, isNone, areDigits, endsNumber, withoutSign, isNumber}
 use Rattle.fields.specs.method.Parts.{cut, hasBytes, anyBytes}
 use Rattle.fields.specs.method.Testing.{hasCode, fitsText, fitsNumber, fits, isMissing, isBroken, namesFirst, testComponent, testAbsent, testComponents, testRest, testElements, faultAt, firstFault}
-use Rattle.rules.specs.method.FirstFound.{firstUnknown}
 use Rattle.rules.specs.meaning.Rows.{literal}
-use Rattle.rules.specs.method.Scanning.{reading, instancesFrom, scannedIn, scannedFrom}
+use Rattle.rules.specs.method.Scanning.{reading, instancesFrom, scannedIn, scannedFrom, firstUnknown}
 use Rattle.rules.specs.method.Identifiers.{identifiedFrom}
 use Rattle.framing.specs.meaning.Record.{place, verdict, answer}
 use Rattle.framing.specs.method.Decimal.{isDecimalFrom}
 use Rattle.framing.specs.method.Stages.{frameFrom, messageStage}
-use Rattle.judging.specs.method.Table.{areKnown, refusal, placeFrom, placedStage, judged}
+use Rattle.rules.specs.method.Conditions.{areTruthValues}
+use Rattle.placing.specs.method.Tables.{placeFrom}
+use Rattle.judging.specs.method.Table.{refusal, placedStage, judged}
 use Rattle.framing.specs.declared.message.Room.{Room}
 use Rattle.framing.specs.declared.verdict.Verdict.{Verdict}
 
@@ -89,5 +91,5 @@ Each [] = Unit {0}
 Each (x ∷ xs) = (judged standard (x .0) k (x .1 ∷ []) eight ≡ x .2) × Each xs
 
 pub stars : Each table
-unfolding k guideOf all headerRule recordsRule homeRule framedRule editionRule blocksRule lengthRule countsRule rangeRule kindRule depthRule tagByteRule tagRule requiredRule selectorRule codeRangeRule maximumRule fieldRangeRule groupRule lineRule codeByteRule codeRule fieldRule identifierFormRule identifierRises identifierRule nextLiteralRule expressionRule noExpressionRule modeRule rowEndRule requiredRowRule rowRule fieldRises risingFieldsRule triggerRule fallRule frameRule framesRule onlyFramesRule otherThanRule notAmongRule sameTagRule samePlaceRule toldApartRule pairRule carrierRule deeperRule aroundRule carrierGroupRule structureRule isData isTagByte valueFrom kindOf scanOn endOn isHere seekOn sameComponent least spells isCode isAnyCode isSelectedAt fitsAt target isPlaceable isClear isPassed canCloseAll admits stacked advanced walked openedBy noted climb startsFrom testedFrom isDigit figures startsDigit afterDigits isNone areDigits endsNumber withoutSign isNumber cut hasBytes anyBytes hasCode fitsText fitsNumber fits isMissing isBroken namesFirst testComponent testAbsent testComponents testRest testElements faultAt firstFault firstUnknown literal reading instancesFrom scannedIn scannedFrom identifiedFrom isDecimalFrom frameFrom messageStage areKnown refusal placeFrom placedStage judged
+unfolding k editionNumbered guideOf all headerRule recordsRule homeRule framedRule editionRule blocksRule lengthRule countsRule rangeRule kindRule depthRule tagByteRule tagRule requiredRule selectorRule codeRangeRule maximumRule fieldRangeRule groupRule lineRule codeByteRule codeRule fieldRule identifierFormRule identifierRises identifierRule nextLiteralRule expressionRule noExpressionRule modeRule rowEndRule requiredRowRule rowRule fieldRises risingFieldsRule triggerRule fallRule frameRule framesRule onlyFramesRule otherThanRule notAmongRule sameTagRule samePlaceRule toldApartRule pairRule carrierRule deeperRule aroundRule carrierGroupRule structureRule isData isTagByte valueFrom kindOf scanOn endOn isHere seekOn sameComponent least spells isCode isAnyCode isSelectedAt fitsAt target isPlaceable isClear isPassed canCloseAll admits stacked advanced walked openedBy noted climb startsFrom testedFrom isDigit figures startsDigit afterDigits isNone areDigits endsNumber withoutSign isNumber cut hasBytes anyBytes hasCode fitsText fitsNumber fits isMissing isBroken namesFirst testComponent testAbsent testComponents testRest testElements faultAt firstFault firstUnknown literal reading instancesFrom scannedIn scannedFrom identifiedFrom isDecimalFrom frameFrom messageStage areTruthValues refusal placeFrom placedStage judged
 stars = (refl, (refl, (refl, (refl, (refl, (refl, (refl, (refl, (refl, (refl, (refl, (refl, (refl, (refl, (refl, (refl, (refl, (refl, tt))))))))))))))))))

@@ -2,7 +2,7 @@
 use Prim.Native.Nat.{ℕ, suc, _+_, _≤_, _<_}
 use native.Mathlib.Omega.{arith}
 use mathlib.Core.Path.{_≡_, refl, sym, ap, _∙_, subst}
-use mathlib.Core.List.{List, [], _∷_, map}
+use mathlib.Core.List.{List, [], _∷_}
 use mathlib.Core.Bool.{Bool, true, false, true≢false, false≢true, cond, _&&_}
 use mathlib.Core.Logic.{_↔_, inl, inr}
 use lib.Dec.{eqb, leb}
@@ -14,15 +14,16 @@ use Rattle.guide.specs.meaning.View.{lineOf}
 use Rattle.book_laws.proofs.Clauses.{last-frame, counts}
 use Rattle.reading.specs.meaning.Service.{All, GoodService}
 use Rattle.reading.specs.meaning.Message.{Segment, Message, ValidTag, ValidSegment}
-use Rattle.reading.specs.meaning.WellFormed.{WellFormed, Means}
+use Rattle.reading.specs.meaning.WellFormed.{WellFormed}
+use Rattle.reading_laws.specs.laws.Outcome.{Means}
 use Rattle.reading.specs.meaning.Tag.{tagNumber, UNT}
 use Rattle.reading.specs.declared.service.Service.{Service}
 use Rattle.guide.specs.meaning.Plan.{planIn}
-use Rattle.placing.specs.meaning.Fitting.{fits, hasTag, homeOf}
+use Rattle.placing.specs.meaning.Fitting.{fits, hasTag, homeOf, homesIn}
 use Rattle.placing.specs.meaning.Placement.{Placed, parentsOf}
 use Rattle.placing.specs.meaning.Answers.{HaveHomes}
 use Rattle.placing.specs.method.Passes.{homesFrom, tested}
-use Rattle.placing.specs.meaning.Answers as passes
+use Rattle.placing_laws.specs.laws.Answers as passes
 use Rattle.placing.specs.declared.passes.Placing.{Placing}
 use Rattle.placing.specs.declared.passes.Placing.the-variants.{Begins, NoHome, Stops}
 use Rattle.placing_laws.proofs.Structured.{structured}
@@ -31,14 +32,17 @@ use Rattle.placing_laws.proofs.Messages.{tested-message}
 use Rattle.placing_laws.proofs.Stopping.{EndsOnLast, allowed-ends, one-meaning}
 use Rattle.framing.specs.meaning.Record.{answer}
 use Rattle.framing.specs.method.Stages.{frameOf}
-use Rattle.judging.specs.method.Table.{isGood, areKnown, placedStage, judged}
+use Rattle.rules.specs.method.Conditions.{areTruthValues}
+use Rattle.book.specs.method.Each.{isGood}
+use Rattle.judging.specs.method.Table.{placedStage, judged}
+use Rattle.judging.specs.method.Answers.{placingVerdict}
 use Rattle.framing.specs.meaning.Table.{NoneWrong, Sized, Misplaced, no-unt, BytesSay}
 use Rattle.demands.specs.meaning.Table.{FitConditions, PlacedSays, HomesSay, TableSays}
 use Rattle.framing.specs.declared.survey.Frame.{Frame}
 use Rattle.framing.specs.declared.survey.Frame.the-variants as frame
 use Rattle.framing.specs.declared.message.Room.{Room}
 use Rattle.framing.specs.declared.verdict.Verdict.{Verdict}
-use Rattle.judging.proofs.Refusals.{good-exactly}
+use Rattle.book.proofs.Tested.{good-exactly}
 use Rattle.framing_laws.proofs.MessageMeans.{unless, Framed, wrong, right, frame-says}
 use Rattle.reading_laws.proofs.Tags.{one-tag, valid-unt}
 use Rattle.reading.proofs.Booleans.{halves}
@@ -47,17 +51,17 @@ use Rattle.demands.proofs.InOrder.{ofPlacing, ofHomes, ofMessage, ofCon
 
 -- ---- number 2
 
-known-exactly : (cs : List ℕ) → (areKnown cs ≡ true) ↔ All (λ c. c ≤ 2) cs
-unfolding areKnown
+known-exactly : (cs : List ℕ) → (areTruthValues cs ≡ true) ↔ All (λ c. c ≤ 2) cs
+unfolding areTruthValues
 known-exactly [] = (λ e. tt, λ a. refl)
 known-exactly (c ∷ cs) = (
-  λ e. let h = halves (leb c 2) (areKnown cs) e in (leb-true c 2 (h .0), known-exactly cs .0 (h .1)),
+  λ e. let h = halves (leb c 2) (areTruthValues cs) e in (leb-true c 2 (h .0), known-exactly cs .0 (h .1)),
   λ a. rw (le-leb c 2 (a .0), known-exactly cs .1 (a .1)),
 )
 
-conditions-exactly : (g : Guide) (cs : List ℕ) → ((eqb (length cs) (g .conditions) && areKnown cs) ≡ true) ↔ FitConditions g cs
+conditions-exactly : (g : Guide) (cs : List ℕ) → ((eqb (length cs) (g .conditions) && areTruthValues cs) ≡ true) ↔ FitConditions g cs
 conditions-exactly g cs = (
-  λ e. let h = halves (eqb (length cs) (g .conditions)) (areKnown cs) e in
+  λ e. let h = halves (eqb (length cs) (g .conditions)) (areTruthValues cs) e in
       record { as-many = eqb-true (length cs) (g .conditions) (h .0); bytes = known-exactly cs .0 (h .1) },
   λ f. rw (eq-eqb (length cs) (g .conditions) (f .as-many), known-exactly cs .1 (f .bytes)),
 )
@@ -84,7 +88,7 @@ module _ (book : List ℕ) (good : GoodBook book) where
 
   -- a message whose frame is right ends with UNT
   ends-with-unt : (n k : ℕ) (g : Segment) (gs : Message) → All ValidSegment (g ∷ gs) → suc k + length gs ≡ n → NoneWrong (Misplaced n) k (g ∷ gs)
-      → EndsOnLast (planIn book) (structured book good) (map (homeOf (guideOf book)) (g ∷ gs))
+      → EndsOnLast (planIn book) (structured book good) (homesIn book (g ∷ gs))
   ends-with-unt n k g [] v e w = record { front = []; same = ap (λ (x : ℕ). x ∷ []) (last-home g (v .0 .tag) (go (eqb (tagNumber (g .tag)) (tagNumber UNT)) refl)) }
     where
       go : (b : Bool) → eqb (tagNumber (g .tag)) (tagNumber UNT) ≡ b → g .tag ≡ UNT
@@ -96,7 +100,7 @@ module _ (book : List ℕ) (good : GoodBook book) where
 
 -- of a message whose frame closes
 pub framed-ends : (s : Service) (service : GoodService s) (bs book : List ℕ) (good : GoodBook book) (w : WellFormed s bs) (last : ℕ)
-    → frameOf s bs (length (w .message)) ≡ frame.Closes last → EndsOnLast (planIn book) (structured book good) (map (homeOf (guideOf book)) (w .message))
+    → frameOf s bs (length (w .message)) ≡ frame.Closes last → EndsOnLast (planIn book) (structured book good) (homesIn book (w .message))
 framed-ends s service bs book good w last e =
     go (w .message) (w .valid .segments) (w .valid .non-empty) refl
     (none (frameOf s bs (length (w .message))) e (frame-says s service bs w))
@@ -110,7 +114,7 @@ framed-ends s service bs book good w last e =
     none f h (right at i l) = i
 
     go : (x : Message) → All ValidSegment x → 0 < length x → length x ≡ length (w .message) → NoneWrong (Misplaced (length (w .message))) 0 x
-        → EndsOnLast (planIn book) (structured book good) (map (homeOf (guideOf book)) x)
+        → EndsOnLast (planIn book) (structured book good) (homesIn book x)
     go [] a l h i = absurd (omega arith)
     go (g ∷ gs) a l h i = ends-with-unt book good (length (w .message)) 0 g gs a (omega arith) i
 
@@ -125,7 +129,7 @@ module _ (s : Service) (service : GoodService s) (bs book cs : List ℕ) (room :
     n = length (w .message)
 
     abbrev hs : List ℕ
-    hs = map (homeOf (guideOf book)) (w .message)
+    hs = homesIn book m
 
     abbrev Found : Placing → Type 0
     Found p = passes.Means (planIn book) hs p
@@ -146,11 +150,6 @@ module _ (s : Service) (service : GoodService s) (bs book cs : List ℕ) (room :
     isNoHome (NoHome k) = true
     isNoHome (Stops k) = false
 
-    abbrev placeOf : Placing → ℕ
-    placeOf Begins = 0
-    placeOf (NoHome k) = k
-    placeOf (Stops k) = k
-
     abbrev PlacedIff : Type 0
     PlacedIff = (t : Placed (planIn book) hs) → (placedStage s bs book cs n ≡ v) ↔ PlacedSays s bs book cs room m hs (parentsOf (t .tree)) v
 
@@ -170,39 +169,39 @@ module _ (s : Service) (service : GoodService s) (bs book cs : List ℕ) (room :
         from (inr (h, inr (u, x))) = later u .1 x
     homes-say last later (NoHome k) f = (λ e. inl (k, f, sym e), from)
       where
-        from : HomesSay s bs book cs room m hs v → answer 10 k ≡ v
-        from (inl (j, x, e)) = ap (answer 10) (ap placeOf (one (NoHome k) (NoHome j) f x)) ∙ sym e
+        from : HomesSay s bs book cs room m hs v → placingVerdict n (NoHome k) ≡ v
+        from (inl (j, x, e)) = ap (placingVerdict n) (one (NoHome k) (NoHome j) f x) ∙ sym e
         from (inr (h, inl (j, x, e))) = absurd (true≢false (ap isNoHome (one (NoHome k) (Stops j) f (h, x))))
         from (inr (h, inr (u, x))) = absurd (true≢false (ap isNoHome (one (NoHome k) Begins f (begins h u))))
     homes-say last later (Stops k) f = (λ e. inr (f .0, inl (k, f .1, sym e)), from)
       where
-        from : HomesSay s bs book cs room m hs v → answer 11 k ≡ v
+        from : HomesSay s bs book cs room m hs v → placingVerdict n (Stops k) ≡ v
         from (inl (j, x, e)) = absurd (false≢true (ap isNoHome (one (Stops k) (NoHome j) f x)))
-        from (inr (h, inl (j, x, e))) = ap (answer 11) (ap placeOf (one (Stops k) (Stops j) f (h, x))) ∙ sym e
+        from (inr (h, inl (j, x, e))) = ap (placingVerdict n) (one (Stops k) (Stops j) f (h, x)) ∙ sym e
         from (inr (h, inr (u, x))) = absurd (false≢true (ap isBegins (one (Stops k) Begins f (begins h u))))
 
-    ends : (x : Message) → All ValidSegment x → 0 < length x → length x ≡ n → NoneWrong (Misplaced n) 0 x → EndsOnLast (planIn book) (structured book good) (map (homeOf (guideOf book)) x)
+    ends : (x : Message) → All ValidSegment x → 0 < length x → length x ≡ n → NoneWrong (Misplaced n) 0 x → EndsOnLast (planIn book) (structured book good) (homesIn book x)
     ends [] a l e none = absurd (omega arith)
     ends (g ∷ gs) a l e none = ends-with-unt book good n 0 g gs a (omega arith) none
 
     -- ---- what is answered behind number 9, of a message whose frame is right
 
-    agrees : PlacedIff → Agrees s service bs room (ofHomes s bs book cs room) (λ x. HomesSay s bs book cs room x (map (homeOf (guideOf book)) x)) v w
+    agrees : PlacedIff → Agrees s service bs room (ofHomes s bs book cs room) (λ x. HomesSay s bs book cs room x (homesIn book x)) v w
     agrees later none =
         homes-say (ends m (w .valid .segments) (w .valid .non-empty) refl none) later (tested (planIn book) (homesFrom s bs book n 0)) (tested-message s service bs w book good)
 
   -- ---- numbers 1 and 2
 
-  module _ (later : GoodBook book → Sized bs → (w : WellFormed s bs) (t : Placed (planIn book) (map (homeOf (guideOf book)) (w .message)))
-      → (placedStage s bs book cs (length (w .message)) ≡ v) ↔ PlacedSays s bs book cs room (w .message) (map (homeOf (guideOf book)) (w .message)) (parentsOf (t .tree)) v) where
-    message-said : GoodBook book → (ofMessage s bs book cs room ≡ v) ↔ BytesSay s bs room (λ x. HomesSay s bs book cs room x (map (homeOf (guideOf book)) x)) v
+  module _ (later : GoodBook book → Sized bs → (w : WellFormed s bs) (t : Placed (planIn book) (homesIn book (w .message)))
+      → (placedStage s bs book cs (length (w .message)) ≡ v) ↔ PlacedSays s bs book cs room (w .message) (homesIn book (w .message)) (parentsOf (t .tree)) v) where
+    message-said : GoodBook book → (ofMessage s bs book cs room ≡ v) ↔ BytesSay s bs room (λ x. HomesSay s bs book cs room x (homesIn book x)) v
     message-said good =
-        message-tells s service bs room (ofHomes s bs book cs room) (λ x. HomesSay s bs book cs room x (map (homeOf (guideOf book)) x)) v (λ z w. agrees good w (later good z w))
+        message-tells s service bs room (ofHomes s bs book cs room) (λ x. HomesSay s bs book cs room x (homesIn book x)) v (λ z w. agrees good w (later good z w))
 
     book-tells : (b : Bool) → isGood book ≡ b → (cond b (ofConditions s bs book cs room) (answer 1 0) ≡ v) ↔ TableSays s bs book cs room v
     book-tells true e =
         unless true (answer 1 0) (ofConditions s bs book cs room) v (subst (λ (b : Bool). (b ≡ true) ↔ GoodBook book) e (good-exactly book))
-        (unless (eqb (length cs) (guideOf book .conditions) && areKnown cs) (answer 2 0) (ofMessage s bs book cs room) v (conditions-exactly (guideOf book) cs) (message-said (good-exactly book .0 e)))
+        (unless (eqb (length cs) (guideOf book .conditions) && areTruthValues cs) (answer 2 0) (ofMessage s bs book cs room) v (conditions-exactly (guideOf book) cs) (message-said (good-exactly book .0 e)))
     book-tells false e = (λ h. inl (λ z. true≢false (sym (good-exactly book .1 z) ∙ e), sym h), from)
       where
         from : TableSays s bs book cs room v → answer 1 0 ≡ v

@@ -2,3 +2,4 @@
 pub mod Table
 pub mod Demands
 pub mod Closing
+pub mod Lookup

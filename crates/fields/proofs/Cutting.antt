@@ -305,6 +305,11 @@ module _ (s : Service) (bs : List ℕ) (from : ℕ) where
   pub free-done : (releases at : ℕ) → length bs ≤ at → Free releases at → Reads s bs from (record { end = at; releases = releases })
   free-done releases at h k = ends s bs from releases at (k .released) (k .reading) (at-end s bs at (k .released) h)
 
+-- where another component opens behind the one that is read, there is a byte more
+pub reads-inside : {s : Service} {bs : List ℕ} {start : ℕ} {p : Part} → Reads s bs start p → {o : Bool} → o ≡ opensComponent s (drop (p .end) bs) → o ≡ true
+    → (start ≤ p .end) × (p .end < length bs)
+reads-inside {s} {bs} {start} {p} r e t = (r .from-start, component-inside s bs (p .end) (sym e ∙ t))
+
 -- ---- before the first element
 
 module _ (s : Service) (bs : List ℕ) (from : ℕ) where
@@ -320,9 +325,6 @@ module _ (s : Service) (bs : List ℕ) (from : ℕ) where
     past : (o : Bool) → opensComponent s (drop (p .end) bs) ≡ o
         → furtherIn (cut s false (drop from bs)) ≡ cond o (furtherIn (cut s false (drop 1 (drop (p .end) bs)))) (behindElement s (drop (p .end) bs))
     past o k = sym (i .further) ∙ ap furtherIn (r .cuts) ∙ ap (λ (t : Bool). cond t (furtherIn (cut s false (drop 1 (drop (p .end) bs)))) (behindElement s (drop (p .end) bs))) k
-
-    pub skipping-inside : opensComponent s (drop (p .end) bs) ≡ true → (start ≤ p .end) × (p .end < length bs)
-    skipping-inside o = (r .from-start, component-inside s bs (p .end) o)
 
     pub skipping-on : opensComponent s (drop (p .end) bs) ≡ true → Skipping (p .end + 1)
     skipping-on o =

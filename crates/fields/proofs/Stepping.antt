@@ -231,9 +231,6 @@ module _ (s : Service) (g : Guide) (bs : List ℕ) (from : ℕ) (some : Bool) (e
           (component-broken x (w .0), omega arith)
 
       module _ (next : ℕ) (k : q ≡ step.Next next) where
-        pub going-inside : opensComponent s behind ≡ true → (start ≤ p .end) × (p .end < length bs)
-        going-inside o = (r .from-start, component-inside s bs (p .end) o)
-
         pub going-on : opensComponent s behind ≡ true → Going (c + 1) (p .end + 1) next
         going-on o = let w = step-kept last _ c q h next k in component-on next (w .1) (w .0) o
 

@@ -19,8 +19,8 @@ use Rattle.reading.specs.meaning.Service.{GoodService, mustRelease}
 use Rattle.reading.specs.meaning.Message.{Component, released, writeComponent}
 use Rattle.reading.specs.meaning.Component.{valueOf, sameComponent}
 use Rattle.reading.specs.declared.service.Service.{Service}
-use Rattle.reading.proofs.Comparing.{same-bytes-refl, same-bytes-true}
-use Rattle.reading_laws.proofs.OneReading.{value-written}
+use Rattle.reading.proofs.Comparing.{same-bytes-true}
+use Rattle.reading_laws.proofs.OneReading.{value-written, same-bytes-refl}
 use Rattle.fields.specs.meaning.Number.{GoodMark, figures}
 use Rattle.fields.specs.method.Number.{isNumber}
 use Rattle.fields.specs.meaning.Fields.{Values, In, HasBytes, OneOf, FitsText, FitsNumber, Fits, Breaks}

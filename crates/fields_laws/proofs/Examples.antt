@@ -5,6 +5,7 @@ use native.Mathlib.Omega.{arith}
 use mathlib.Core.Path.{_≡_, refl}
 use mathlib.Core.List.{List, [], _∷_}
 use lib.ListN.{take}
+use Rattle.guide.specs.meaning.Edition.{editionNumbered}
 use Rattle.guide.specs.meaning.Guide.{guideOf}
 use Rattle.guide.specs.meaning.View.{lineOf}
 use Rattle.book_laws.proofs.Bytes.{k, second}
@@ -116,7 +117,7 @@ pub record Table : Type 0 where
   last-at-fault : firstFault standard (guideOf k) message 5 (40 ∷ []) (7 ∷ []) ≡ first.At 6 7 2 1
 
 pub bench : Table
-unfolding k second guideOf faultAt firstFault testElements testRest testComponents testComponent testAbsent isBroken isMissing fits fitsText fitsNumber hasCode isNumber startsDigit afterDigits isNone areDigits endsNumber withoutSign isDigit figures hasBytes anyBytes cut kindOf isData valueFrom isAnyCode isCode spells
+unfolding k second editionNumbered guideOf faultAt firstFault testElements testRest testComponents testComponent testAbsent isBroken isMissing fits fitsText fitsNumber hasCode isNumber startsDigit afterDigits isNone areDigits endsNumber withoutSign isDigit figures hasBytes anyBytes cut kindOf isData valueFrom isAnyCode isCode spells
 bench =
     record {
       lin = refl;
@@ -174,5 +175,5 @@ comma-there =
 
 -- by the law, 1.1 is its least fault
 pub comma-fault : LeastFault standard (lineOf (guideOf k) 5 .fields) (valueAt comma) (At 1 1)
-unfolding k guideOf faultAt firstFault testElements testRest testComponents testComponent testAbsent isBroken isMissing fits fitsText fitsNumber hasCode isNumber startsDigit afterDigits isNone areDigits endsNumber withoutSign isDigit figures hasBytes anyBytes cut kindOf isData valueFrom isAnyCode isCode spells
+unfolding k editionNumbered guideOf faultAt firstFault testElements testRest testComponents testComponent testAbsent isBroken isMissing fits fitsText fitsNumber hasCode isNumber startsDigit afterDigits isNone areDigits endsNumber withoutSign isDigit figures hasBytes anyBytes cut kindOf isData valueFrom isAnyCode isCode spells
 comma-fault = field-fault standard good-standard good-mark-standard k k-is-good 5 (omega arith) (omega arith) (76 ∷ 73 ∷ 78 ∷ 43 ∷ 49 ∷ 44 ∷ 53 ∷ 39 ∷ []) 0 comma comma-there

@@ -7,7 +7,8 @@ use mathlib.Core.List.{List, [], _∷_}
 use lib.ListN.{length}
 use Rattle.guide.specs.meaning.Guide.{Guide}
 use Rattle.reading.specs.declared.service.Service.{Service}
-use Rattle.fields.specs.method.Testing.{faultAt, thenFirst, firstFault, CleanAt, FirstMeans}
+use Rattle.fields.specs.method.Testing.{faultAt, thenFirst, firstFault}
+use Rattle.fields_laws.specs.laws.FirstFault.{CleanAt, FirstMeans}
 use Rattle.fields.specs.declared.fault.Fault.{Fault}
 use Rattle.fields.specs.declared.fault.Fault.the-variants.{At, Clean}
 use Rattle.fields.specs.declared.passes.FirstFault.{FirstFault}

@@ -12,8 +12,8 @@ use Rattle.reading.specs.meaning.Component.{span}
 use Rattle.reading.specs.method.Machine.{segmentEnd, foundBy, badFrom, scanned}
 use Rattle.reading.specs.method.Tag.{tagAt}
 use Rattle.reading.specs.declared.service.Service.{Service}
-use Rattle.reading.specs.meaning.WellFormed.{Outcome}
-use Rattle.reading.specs.meaning.WellFormed as outcome
+use Rattle.reading.specs.method.Outcome.{Outcome}
+use Rattle.reading.specs.method.Outcome as outcome
 use Rattle.reading.specs.declared.cursor.End.the-variants.{At, Nowhere}
 use Rattle.reading.proofs.Scanning.{Scanning, scanning-begin, scanning-on, scanning-bad, scanning-empty, scanning-end}
 use Rattle.reading.specs.method.Starts.{startsFrom}

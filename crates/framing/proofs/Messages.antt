@@ -7,12 +7,12 @@ use mathlib.Core.Bool.{Bool, true, false, false≢true, cond, _&&_}
 use lib.Dec.{leb, ltb}
 use lib.ListN.{length}
 use borrow.Author.Tests.{lt-leb, le-leb, leb-true}
-use Rattle.reading.specs.meaning.Limits.{mostBytes, mostSegments}
+use Rattle.framing.specs.meaning.Limits.{mostBytes, mostSegments}
 use Rattle.reading.specs.method.Machine.{stepped, isDead, isStart, ended, pick, scanOn, scanned}
 use Rattle.reading.specs.meaning.Component.{sameComponent}
 use Rattle.reading.specs.declared.machine.State.{State}
 use Rattle.reading.specs.declared.service.Service.{Service}
-use Rattle.reading.specs.meaning.WellFormed.{Outcome, Segments, BadAt}
+use Rattle.reading.specs.method.Outcome.{Outcome, Segments, BadAt}
 use Rattle.reading.proofs.Scanning.{bad-segments}
 use Rattle.framing.specs.meaning.Record.{answer}
 use Rattle.framing.specs.method.Decimal.{isDecimal}
@@ -20,22 +20,19 @@ use Rattle.framing.specs.method.Stages.{isSized, hasRoom, frameOf, compo
 use Rattle.framing.specs.declared.message.Room.{Room}
 
 -- number 4's place lies within the message, or at its end
-bad-is : {j k : ℕ} → BadAt j ≡ BadAt k → j ≡ k
-bad-is e = cc
-
 bad-in : (s : Service) (p : State) (n at : ℕ) (bs : List ℕ) (k : ℕ) → scanOn s p n at bs ≡ BadAt k → k ≤ at + length bs
 unfolding scanOn
 bad-in s p n at [] k e = go (isStart p) (ltb 0 n) e
   where
     go : (x y : Bool) → pick (x && y) (Segments n) (BadAt at) ≡ BadAt k → k ≤ at + 0
     go true true h = absurd (bad-segments (sym h))
-    go true false h = let i : at ≡ k = bad-is h in omega arith
-    go false y h = let i : at ≡ k = bad-is h in omega arith
+    go true false h = let i : at ≡ k = cc h in omega arith
+    go false y h = let i : at ≡ k = cc h in omega arith
 bad-in s p n at (b ∷ bs) k e = go (isDead (stepped s p b)) (bad-in s (stepped s p b) (ended (stepped s p b) n) (at + 1) bs k) e
   where
     go : (x : Bool) → (scanOn s (stepped s p b) (ended (stepped s p b) n) (at + 1) bs ≡ BadAt k → k ≤ at + 1 + length bs)
         → pick x (BadAt at) (scanOn s (stepped s p b) (ended (stepped s p b) n) (at + 1) bs) ≡ BadAt k → k ≤ at + length (b ∷ bs)
-    go true ih h = let i : at ≡ k = bad-is h in omega arith
+    go true ih h = let i : at ≡ k = cc h in omega arith
     go false ih h = let i = ih h in omega arith
 
 pub bad-within : (s : Service) (bs : List ℕ) (k : ℕ) → scanned s bs ≡ BadAt k → k ≤ length bs

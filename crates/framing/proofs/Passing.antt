@@ -7,9 +7,9 @@ use mathlib.Core.Bool.{Bool, true, false, cond, _&&_}
 use mathlib.Core.Logic.{_↔_}
 use lib.Dec.{eqb, leb}
 use borrow.Author.Tests.{eqb-true, le-leb, leb-true}
-use Rattle.reading.specs.meaning.Limits.{mostSegments}
+use Rattle.framing.specs.meaning.Limits.{mostSegments}
 use Rattle.reading.specs.meaning.Component.{sameComponent}
-use Rattle.reading.specs.meaning.WellFormed.{Outcome, Segments, BadAt}
+use Rattle.reading.specs.method.Outcome.{Outcome, Segments, BadAt}
 use Rattle.reading.specs.method.Machine.{scanned}
 use Rattle.reading.specs.declared.service.Service.{Service}
 use Rattle.reading.proofs.Booleans.{halves}

@@ -3,14 +3,14 @@ ghost use mathlib.Core.Path.{_≡_};
 ghost use Prim.Native.Nat.{_<_};
 ghost use Rattle.framing.specs.method.Decimal.{isDecimalFrom, leads, isDecimal};
 ghost use Rattle.framing.specs.method.Stages.{isSized, hasRoom, frameOf, closingStage, frameStage, countStage, messageStage};
+use crate::limits::LIMIT_BYTES;
+use crate::limits::LIMIT_SEGMENTS;
 use crate::survey;
 use crate::survey::Frame;
 use crate::survey::Survey;
 use crate::verdict::Verdict;
 use reading::bytes;
 use reading::compare;
-use reading::limits::LIMIT_BYTES;
-use reading::limits::LIMIT_SEGMENTS;
 use reading::lookup;
 use reading::service::Service;
 

@@ -4,7 +4,7 @@ ghost use mathlib.Core.Path.{_≡_};
 ghost use mathlib.Core.Bool.{cond, not};
 ghost use Prim.Native.Nat.{_≤_};
 ghost use lib.ListN.{length};
-ghost use Rattle.reading.specs.meaning.Limits.{mostBytes};
+ghost use Rattle.framing.specs.meaning.Limits.{mostBytes};
 ghost use Rattle.framing.specs.method.Stages.{isMisplaced};
 ghost use Rattle.framing.specs.method.Survey.{misplacedBy, frameBy, surveyed};
 use reading::cursor;

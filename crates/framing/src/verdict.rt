@@ -1,6 +1,7 @@
-// The answer record: one struct by value, of which the stages change single fields.
+// The answer record: one struct by value, of which the stages change single fields; and how it goes into a lent table.
 ghost use mathlib.Core.Path.{_≡_};
-ghost use Rattle.framing.specs.meaning.Record.{answer};
+ghost use Rattle.slices.specs.meaning.Lent.{asManyAsFit};
+ghost use Rattle.framing.specs.meaning.Record.{answer, numbersOf};
 
 // Where: a segment's number (an offset for number 4), the guide's line, and the element and component in the segment.
 pub struct Place {
@@ -34,4 +35,16 @@ impl Verdict {
             condition: 0,
         }
     }
+}
+
+// The six numbers in 01's order, as many as fit.
+pub fn put_verdict(numbers: &mut [u32], verdict: Verdict)
+    ensures { λ _. ⌜ now (numbers .exit) ≡ asManyAsFit (numbersOf verdict) (now (numbers .entry)) ⌝ }
+{
+    slices::put(numbers, 0, verdict.number);
+    slices::put(numbers, 1, verdict.place.at);
+    slices::put(numbers, 2, verdict.place.line);
+    slices::put(numbers, 3, verdict.place.element);
+    slices::put(numbers, 4, verdict.place.component);
+    slices::put(numbers, 5, verdict.condition);
 }

@@ -30,7 +30,7 @@ use Rattle.framing.specs.meaning.Table.{Unless, FirstWrong, NoneWrong, Misplace
 use Rattle.framing.specs.declared.survey.Frame.{Frame}
 use Rattle.framing.specs.declared.survey.Frame.the-variants as frame
 use Rattle.framing.specs.declared.verdict.Verdict.{Verdict}
-use Rattle.framing.proofs.Decimals.{decimal}
+use Rattle.framing_laws.proofs.Decimals.{decimal}
 use Rattle.reading.proofs.Booleans.{or-true}
 
 -- ---- tests and what they say

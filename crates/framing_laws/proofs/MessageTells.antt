@@ -8,11 +8,13 @@ use mathlib.Core.Logic.{_↔_, _⊎_, inl, inr}
 use lib.Dec.{eqb, leb, ltb}
 use lib.ListN.{length}
 use borrow.Author.Tests.{eqb-true, le-leb, leb-true, lt-ltb, ltb-true}
-use Rattle.reading.specs.meaning.Limits.{mostBytes, mostSegments}
+use Rattle.framing.specs.meaning.Limits.{mostBytes, mostSegments}
 use Rattle.reading.specs.meaning.Service.{All, GoodService}
 use Rattle.reading.specs.meaning.Message.{Segment, Message, ValidSegment, writeSegments, render}
 use Rattle.reading.specs.meaning.Component.{sameComponent}
-use Rattle.reading.specs.meaning.WellFormed.{WellFormed, FirstBad, SegmentAt, Means, Outcome, Segments, BadAt}
+use Rattle.reading.specs.meaning.WellFormed.{WellFormed, FirstBad, SegmentAt}
+use Rattle.reading.specs.method.Outcome.{Outcome, Segments, BadAt}
+use Rattle.reading_laws.specs.laws.Outcome.{Means}
 use Rattle.reading.specs.method.Machine.{scanned}
 use Rattle.reading.specs.declared.service.Service.{Service}
 use Rattle.reading.proofs.Booleans.{halves}
@@ -66,15 +68,13 @@ module _ (s : Service) (bs : List ℕ) (room : Room) (rest : ℕ → Verdict) wh
       cond (isDecimal n (componentAt s bs last 1 1)) (cond (sameComponent (componentAt s bs last 2 1) (componentAt s bs 0 1 1)) (rest n) (answer 9 n)) (answer 8 n)
 
   abbrev ofFrame : ℕ → Frame → Verdict
-  ofFrame n (frame.Misplaced k) = answer 7 k
-  ofFrame n (frame.Closes last) = ofClosing n last
+  ofFrame n f = then (frameStage s bs n f) next
 
   abbrev ofCount : ℕ → Verdict
   ofCount n = cond (leb n mostSegments) (cond (hasRoom room n) (ofFrame n (frameOf s bs n)) (answer 6 n)) (answer 5 0)
 
   abbrev ofScan : Outcome → Verdict
-  ofScan (BadAt k) = answer 4 k
-  ofScan (Segments n) = ofCount n
+  ofScan o = then (scanStage s bs room o) next
 
   after-closing : (n last : ℕ) → then (closingStage s bs n last) next ≡ ofClosing n last
   after-closing n last =
@@ -83,26 +83,15 @@ module _ (s : Service) (bs : List ℕ) (room : Room) (rest : ℕ → Verdict) wh
       ∙ ap (λ (z : Verdict). cond (isDecimal n (componentAt s bs last 1 1)) z (answer 8 n))
       (then-good (sameComponent (componentAt s bs last 2 1) (componentAt s bs 0 1 1)) (answer 9 n) (answer 0 n) next refl refl)
 
-  after-frame : (n : ℕ) (f : Frame) → then (frameStage s bs n f) next ≡ ofFrame n f
-  after-frame n (frame.Misplaced k) = refl
-  after-frame n (frame.Closes last) = after-closing n last
-
   after-count : (n : ℕ) → then (countStage s bs room n) next ≡ ofCount n
   after-count n =
       then-fault (leb n mostSegments) (answer 5 0) (cond (hasRoom room n) (frameStage s bs n (frameOf s bs n)) (answer 6 n)) next refl
       ∙ ap (λ (z : Verdict). cond (leb n mostSegments) z (answer 5 0))
-      (then-fault (hasRoom room n) (answer 6 n) (frameStage s bs n (frameOf s bs n)) next refl
-      ∙ ap (λ (z : Verdict). cond (hasRoom room n) z (answer 6 n)) (after-frame n (frameOf s bs n)))
-
-  after-scan : (o : Outcome) → then (scanStage s bs room o) next ≡ ofScan o
-  after-scan (BadAt k) = refl
-  after-scan (Segments n) = after-count n
+      (then-fault (hasRoom room n) (answer 6 n) (frameStage s bs n (frameOf s bs n)) next refl)
 
   after-message : then (messageStage s bs room) next ≡ cond (isSized bs) (ofScan (scanned s bs)) (answer 3 0)
   unfolding messageStage
-  after-message =
-      then-fault (isSized bs) (answer 3 0) (scanStage s bs room (scanned s bs)) next refl
-      ∙ ap (λ (z : Verdict). cond (isSized bs) z (answer 3 0)) (after-scan (scanned s bs))
+  after-message = then-fault (isSized bs) (answer 3 0) (scanStage s bs room (scanned s bs)) next refl
 
 -- ---- what each says
 
@@ -140,7 +129,7 @@ module _ (s : Service) (service : GoodService s) (bs : List ℕ) (room : Room) (
         from : FrameSays → answer 7 p ≡ v
         from (inl (q, j, e)) = ap (answer 7) (one-first (Misplaced n) 0 m p q i j) ∙ sym e
         from (inr (none, x)) = absurd (first-or-none (Misplaced n) 0 m p i none)
-    frame-tells agrees f (right at none i) = (λ e. inr (none, closing .0 e), from)
+    frame-tells agrees f (right at none i) = (λ e. inr (none, closing .0 (sym (after-closing s bs room rest n at) ∙ e)), from)
       where
         first : (g : Segment) × IsFirst m g × SegmentAt s bs 0 g
         first = first-segment m (w .same) (w .valid .segments) (w .valid .non-empty)
@@ -155,9 +144,9 @@ module _ (s : Service) (service : GoodService s) (bs : List ℕ) (room : Room) (
             (unless (sameComponent (componentAt s bs at 2 1) (componentAt s bs 0 1 1)) (answer 9 n) (rest n) v
             (reference-exactly s service bs m (first .0) (last .0) at (first .1) (first .2) (last .1) (last .2)) (agrees none))
 
-        from : FrameSays → ofClosing s bs room rest n at ≡ v
+        from : FrameSays → ofFrame s bs room rest n (frame.Closes at) ≡ v
         from (inl (q, j, e)) = absurd (first-or-none (Misplaced n) 0 m q j none)
-        from (inr (h, x)) = closing .1 x
+        from (inr (h, x)) = after-closing s bs room rest n at ∙ closing .1 x
 
     count-tells : Agrees w → (ofCount s bs room rest n ≡ v) ↔ MessageSays s bs room Rest m v
     count-tells agrees =
@@ -175,13 +164,13 @@ module _ (s : Service) (service : GoodService s) (bs : List ℕ) (room : Room) (
       from : ScanSays → answer 4 k ≡ v
       from (inl (j, x, h)) = ap (answer 4) (one-first-bad s service bs k j i x) ∙ sym h
       from (inr (w, x)) = absurd (i .ill-formed w)
-  scan-tells agrees (Segments n) (w, l) e = (λ h. inr (w, count-tells w (agrees w) .0 (ap (ofCount s bs room rest) l ∙ h)), from)
+  scan-tells agrees (Segments n) (w, l) e = (λ h. inr (w, count-tells w (agrees w) .0 (ap (ofCount s bs room rest) l ∙ sym (after-count s bs room rest n) ∙ h)), from)
     where
-      from : ScanSays → ofCount s bs room rest n ≡ v
+      from : ScanSays → ofScan s bs room rest (Segments n) ≡ v
       from (inl (j, x, h)) = absurd (x .ill-formed w)
       from (inr (u, x)) =
           let same : n ≡ length (u .message) = segments-is (sym e ∙ accepts s service bs u) in
-          ap (ofCount s bs room rest) same ∙ count-tells u (agrees u) .1 x
+          after-count s bs room rest n ∙ ap (ofCount s bs room rest) same ∙ count-tells u (agrees u) .1 x
 
   sized-tells : (Sized bs → (w : WellFormed s bs) → Agrees w) → (b : Bool) → isSized bs ≡ b → (cond b (ofScan s bs room rest (scanned s bs)) (answer 3 0) ≡ v) ↔ BytesSay s bs room Rest v
   sized-tells agrees true e =

@@ -1,5 +1,5 @@
-// The editions of a book: how many bytes its header and the records of its blocks have. Another edition is one more case here
-// and in specs/meaning/Edition.antt; nothing else knows a size.
+// The editions of a book: how many bytes its header and the records of its blocks have. Another edition is one more case here,
+// in specs/meaning/Edition.antt, and in the proofs of the two; nothing else knows a size.
 ghost use Rattle.guide.specs.meaning.Edition.{editionNumbered, editionOf};
 ghost use Rattle.guide.specs.method.Sizes.{SizesOf};
 use crate::head;

@@ -8,9 +8,9 @@ use lib.Dec.{eqb}
 use lib.ListN.{length, take, drop, length-map}
 use lib.Seq.{sets, take-append-seam}
 use borrow.Author.Tests.{eq-eqb, ne-eqb, le-leb}
-use Rattle.reading.specs.meaning.Limits.{mostBytes}
+use Rattle.framing.specs.meaning.Limits.{mostBytes}
 use Rattle.reading.specs.meaning.Service.{standard}
-use Rattle.reading.specs.meaning.WellFormed.{Segments}
+use Rattle.reading.specs.method.Outcome.{Segments}
 use Rattle.reading.specs.method.Starts.{startsFrom}
 use Rattle.reading.specs.declared.service.Service.{Service}
 use Rattle.reading.proofs.Starts.{starts-counted, starts-small}
@@ -23,7 +23,8 @@ use Rattle.framing.proofs.Messages.{sized-within}
 use Rattle.framing.proofs.Passing.{fault, first-clear, first-passed, room-exactly, ClearMessage, clear-message, Low, low-cond, low-or, low-message}
 use Rattle.guide.specs.meaning.Guide.{guideOf}
 use Rattle.guide.specs.meaning.Plan.{planIn}
-use Rattle.judging.specs.meaning.Answers.{placingVerdict, fieldsVerdict, rowsVerdict}
+use Rattle.book.specs.method.Each.{isGood}
+use Rattle.judging.specs.method.Answers.{placingVerdict, fieldsVerdict, rowsVerdict}
 use Rattle.placing.specs.method.Fitting.{homeAt}
 use Rattle.placing.specs.method.Passes.{homesFrom, tested, startsTable, homesTable, parentsTable}
 use Rattle.placing.proofs.Passing.{filled}
@@ -32,13 +33,14 @@ use Rattle.placing.specs.declared.passes.Placing.the-variants.{Begins, NoHome, 
 use Rattle.fields.specs.method.Testing.{firstFault}
 use Rattle.fields.specs.declared.passes.FirstFault.{FirstFault}
 use Rattle.fields.specs.declared.passes.FirstFault.the-variants.{At, Clean}
+use Rattle.rules.specs.method.Conditions.{areTruthValues}
 use Rattle.rules.specs.method.Identifiers.{identified}
 use Rattle.rules.specs.method.Scanning.{scannedRow}
 use Rattle.rules.specs.declared.finding.Finding.{Finding}
 use Rattle.rules.specs.declared.finding.Finding.the-variants.{Kept, Broken, Unsettled}
 use Rattle.rules.specs.declared.identifier.Identified.{Identified}
 use Rattle.rules.specs.declared.identifier.Identified.the-variants.{Known, Foreign}
-use Rattle.judging.specs.method.Table.{isGood, bookStage, areKnown, conditionsStage, placingStage, refusal, identifierIn, identifierVerdict, placedVerdict, placedStage, judged, unlessRefused, tablesAfter}
+use Rattle.judging.specs.method.Table.{bookStage, conditionsStage, placingStage, refusal, identifierIn, identifierVerdict, placedVerdict, placedStage, judged, unlessRefused, tablesAfter}
 use Rattle.judging.proofs.Refusals.{refusal-is}
 
 -- ---- which numbers are refusals
@@ -55,7 +57,7 @@ module _ (s : Service) (bs : List ℕ) where
       (low-or (bookStage book) (orElse (conditionsStage (guideOf book) cs) (orElse (messageStage s bs room) (placingStage s bs book (messageStage s bs room .place .at))))
       (low-cond (isGood book) (answer 1 0) (answer 0 0) (omega arith) (omega arith))
       (low-or (conditionsStage (guideOf book) cs) (orElse (messageStage s bs room) (placingStage s bs book (messageStage s bs room .place .at)))
-      (low-cond (eqb (length cs) (guideOf book .conditions) && areKnown cs) (answer 2 0) (answer 0 0) (omega arith) (omega arith))
+      (low-cond (eqb (length cs) (guideOf book .conditions) && areTruthValues cs) (answer 2 0) (answer 0 0) (omega arith) (omega arith))
       (low-or (messageStage s bs room) (placingStage s bs book (messageStage s bs room .place .at)) (low-message s bs room)
       (low-placing (messageStage s bs room .place .at) (tested (planIn book) (homesFrom s bs book (messageStage s bs room .place .at) 0))))))
 

@@ -1,3 +1,2 @@
--- What has to be believed of judging itself: 01's number for each answer, and the tables.
-pub mod Answers
+-- What has to be believed of judging itself: the tables.
 pub mod Tables

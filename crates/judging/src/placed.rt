@@ -1,12 +1,12 @@
 // Numbers 12 to 15, in the order of 01's table: of a message whose starts and homes stand in the tables.
 ghost use mathlib.Core.Path.{_≡_};
-ghost use Prim.Native.Nat.{_-_, _≤_};
-ghost use lib.ListN.{length, getD, take};
+ghost use Prim.Native.Nat.{_≤_};
+ghost use lib.ListN.{length, take};
 ghost use Rattle.guide.specs.meaning.Guide.{guideOf};
-ghost use Rattle.reading.specs.meaning.Limits.{mostBytes};
+ghost use Rattle.framing.specs.meaning.Limits.{mostBytes};
 ghost use Rattle.rules.specs.method.Identifiers.{identified};
-ghost use Rattle.judging.specs.method.Table.{placeFrom, identifierIn, identifierVerdict, placedVerdict};
-ghost use Rattle.judging.specs.meaning.Answers.{rowsVerdict};
+ghost use Rattle.judging.specs.method.Table.{identifierIn, identifierVerdict, placedVerdict};
+ghost use Rattle.judging.specs.method.Answers.{rowsVerdict};
 ghost use Rattle.framing.specs.meaning.Record.{verdict, place as at};
 use fields::FirstFault;
 use framing::Verdict;
@@ -70,8 +70,8 @@ fn rules_stage(
     ensures { λ r. ⌜ r ≡ identifierVerdict (guideOf (now (book .entry))) (now (conditions .entry)) segments (take segments (now (homes .entry)))
         (identified (guideOf (now (book .entry))) (identifierIn service (guideOf (now (book .entry))) (now (message .entry)) (take segments (now (starts .entry))) (take segments (now (homes .entry))))) ⌝ }
 {
-    let place = place_of(homes, segments, layout::carrier(book));
-    let at = entry_at(starts, segments, entry_for(place)) as usize;
+    let place = placing::place_of(homes, segments, layout::carrier(book));
+    let at = placing::start_of(starts, segments, place) as usize;
     let value = lookup::find_component(service, message, at, 1, 2);
     match identifier::find_identifier(book, value) {
         Identified::Foreign => Verdict::answer(13, place),
@@ -85,64 +85,18 @@ fn rules_stage(
 fn row_verdict(segments: u32, found: Finding) -> Verdict
     ensures { λ r. ⌜ r ≡ rowsVerdict segments found ⌝ }
 {
-    let mut verdict = Verdict::answer(0, segments);
     match found {
-        Finding::Kept => verdict,
-        Finding::Broken(place, line) => {
-            verdict.number = 14;
-            verdict.place.at = place;
-            verdict.place.line = line;
-            verdict
-        }
-        Finding::Unsettled(place, line, condition) => {
-            verdict.number = 15;
-            verdict.place.at = place;
-            verdict.place.line = line;
-            verdict.condition = condition;
-            verdict
-        }
+        Finding::Kept => Verdict::answer(0, segments),
+        Finding::Broken(place, line) => row_fault(14, place, line, 0),
+        Finding::Unsettled(place, line, condition) => row_fault(15, place, line, condition),
     }
 }
 
-// ---- where the Prüfidentifikator stands
-
-// The first of so many segments whose home is this line, by its place; 0 if there is none.
-fn place_of(homes: &[u32], segments: u32, line: u32) -> u32
-    ensures { λ r. ⌜ r ≡ placeFrom line 0 (take segments (now (homes .entry))) ⌝ }
+fn row_fault(number: u32, place: u32, line: u32, condition: u32) -> Verdict
+    ensures { λ r. ⌜ r ≡ verdict number (at place line 0 0) condition ⌝ }
 {
-    let mut place: u32 = 0;
-    while place < segments {
-        let at = place as usize;
-        if homes.len() <= at {
-            return 0;
-        }
-        place += 1;
-        if homes[at] == line {
-            return place;
-        }
-    }
-    0
-}
-
-// Places count from 1, entries from 0.
-fn entry_for(place: u32) -> u32
-    ensures { λ r. ⌜ r ≡ place - 1 ⌝ }
-{
-    if place == 0 {
-        return 0;
-    }
-    place - 1
-}
-
-// An entry of so many; 0 where there is none.
-fn entry_at(table: &[u32], entries: u32, at: u32) -> u32
-    ensures { λ r. ⌜ r ≡ getD (take entries (now (table .entry))) at 0 ⌝ }
-{
-    if entries <= at {
-        return 0;
-    }
-    if table.len() <= at as usize {
-        return 0;
-    }
-    table[at as usize]
+    let mut verdict = Verdict::answer(number, place);
+    verdict.place.line = line;
+    verdict.condition = condition;
+    verdict
 }

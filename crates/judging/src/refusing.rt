@@ -1,7 +1,7 @@
 // The refusals, numbers 1 to 11, in the order of 01's table. They touch no table. Numbers 3 to 9 are asked in the crate framing.
 ghost use mathlib.Core.Path.{_≡_};
 ghost use Rattle.guide.specs.meaning.Guide.{guideOf};
-ghost use Rattle.judging.specs.method.Table.{areKnown, bookStage, conditionsStage, placingStage, refusal};
+ghost use Rattle.judging.specs.method.Table.{bookStage, conditionsStage, placingStage, refusal};
 use framing::Room;
 use framing::Verdict;
 use guide::layout;
@@ -51,7 +51,7 @@ fn conditions_stage(book: &[u8], conditions: &[u8]) -> Verdict
     if conditions.len() != wanted {
         return Verdict::answer(2, 0);
     }
-    if !are_known(conditions) {
+    if !rules::are_truth_values(conditions) {
         return Verdict::answer(2, 0);
     }
     Verdict::answer(0, 0)
@@ -66,18 +66,4 @@ fn placing_stage(service: Service, message: &[u8], book: &[u8], segments: u32) -
         Placing::NoHome(place) => Verdict::answer(10, place),
         Placing::Stops(place) => Verdict::answer(11, place),
     }
-}
-
-// Is each byte 0, 1 or 2?
-fn are_known(conditions: &[u8]) -> bool
-    ensures { λ r. ⌜ r ≡ areKnown (now (conditions .entry)) ⌝ }
-{
-    let mut at = 0;
-    while at < conditions.len() {
-        if 2 < conditions[at] {
-            return false;
-        }
-        at += 1;
-    }
-    true
 }

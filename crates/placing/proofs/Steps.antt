@@ -1,5 +1,5 @@
 -- The steps of the functions over a walk, one law for each way through.
-use Prim.Native.Nat.{ℕ, zero, suc, _+_, _-_, _≤_, _<_, _^_, pred}
+use Prim.Native.Nat.{ℕ, zero, suc, _+_, _-_, _≤_, _<_, pred}
 use native.Mathlib.Omega.{arith}
 use native.Mathlib.Numerals.{add-one}
 use mathlib.Core.Path.{_≡_, refl, sym, ap, ap₂, _∙_, subst}
@@ -12,8 +12,8 @@ use borrow.Author.Tests.{lt-ltb, le-ltb, eq-eqb, ne-eqb, le-leb, ltb-true, eqb-t
 use Rattle.placing.specs.declared.walk.Level.{Level}
 use Rattle.placing.specs.declared.walk.Walk.{Walk}
 use Rattle.placing.specs.declared.walk.Move.{Move}
-use Rattle.guide.specs.meaning.Guide.{guideOf, lineAt}
-use Rattle.guide.specs.meaning.Plan.{Plan, planIn, isTrigger, target}
+use Rattle.guide.specs.meaning.Plan.{Plan, isTrigger}
+use Rattle.guide.specs.method.Targets.{target}
 use Rattle.placing.specs.method.Walking.{Ready, StandsFor, SegmentLine, WithinEight, Opens, made, admits, advanced, canClose, canCloseAll, canMove, entered, isAlive, isClear, isPassed, isPlaceable, level, openLines, raised, stacked, start, walked}
 use Rattle.placing.specs.method.Tree.{openedBy}
 
@@ -271,10 +271,3 @@ alive-is w b hs i = go (eqb (w .height) 0) refl ∙ ap isAlive (i .lines)
     go : (t : Bool) → eqb (w .height) 0 ≡ t → not t ≡ isAlive (openLines w)
     go true e = sym (alive-none w (i .ready) (eqb-true (w .height) 0 e))
     go false e = sym (alive-high w (i .ready) (eqb-false (w .height) 0 e))
-
--- a maximum is a number of four bytes
-pub maximum-fits : (bs : List ℕ) → ((k : ℕ) → getD bs k 0 < 256) → (l : ℕ) → planIn bs .maximum l < 2 ^ 32
-unfolding guideOf
-maximum-fits bs h l =
-    let at = lineAt bs l + 12 in
-    omega (arith, h at, h (at + 1), h (at + 2), h (at + 2 + 1))

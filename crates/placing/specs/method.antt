@@ -3,5 +3,5 @@ pub mod Fitting
 pub mod Kept
 pub mod Walking
 pub mod Tree
-pub mod ClosedTree
 pub mod Passes
+pub mod Tables

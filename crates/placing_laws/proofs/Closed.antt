@@ -12,7 +12,7 @@ use Rattle.guide.specs.meaning.Plan.{Plan, deep, opening, Of}
 use Rattle.placing_laws.proofs.Structured.{Structured}
 use Rattle.placing.specs.meaning.Placement.{Contents, nothing, segment, instance, homes, size, parents, Runs, Placed}
 use Rattle.guide.specs.meaning.Tree.{climb, owner}
-use Rattle.placing.specs.method.ClosedTree.{lastOf, heldBy, closed, closedParents}
+use Rattle.placing_laws.specs.laws.ClosedTree.{lastOf, heldBy, closed, closedParents}
 use Rattle.placing.specs.method.Tree.{notedParents}
 use Rattle.placing_laws.proofs.Trees.{homes-append, homes-length, Same, it, other, same}
 use Rattle.placing_laws.proofs.Walks.{homeFor, homeFor-target, opening-le}

@@ -19,8 +19,8 @@ use Rattle.reading.specs.meaning.Service.{All, GoodService, isWordByte}
 use Rattle.reading.specs.meaning.Message.{Component, writeComponent}
 use Rattle.reading.specs.meaning.Component.{sameComponent}
 use Rattle.reading.specs.declared.service.Service.{Service}
-use Rattle.reading.proofs.Comparing.{same-bytes-refl, same-bytes-true}
-use Rattle.reading_laws.proofs.OneReading.{IsWord, raw-is-value, word-written}
+use Rattle.reading.proofs.Comparing.{same-bytes-true}
+use Rattle.reading_laws.proofs.OneReading.{IsWord, raw-is-value, word-written, same-bytes-refl}
 use Rattle.placing.specs.meaning.Fitting.{isAmong}
 use Rattle.guide.specs.method.Codes.{spells, isCode, isAnyCode}
 use Rattle.reading.proofs.Booleans.{both, left, right, same-test}

@@ -8,13 +8,15 @@ use mathlib.Core.Bool.{Bool, true, false, true≢false, false≢true, cond}
 use mathlib.Core.Logic.{_↔_}
 use lib.Dec.{eqb, ltb}
 use borrow.Author.Tests.{eq-eqb, eqb-true, eqb-false, ltb-true, ltb-false}
+use Rattle.guide.proofs.Depths.{line-deep}
 use Rattle.placing.specs.declared.walk.Level.{Level}
 use Rattle.guide.specs.meaning.Plan.{Plan, deep, opening, Of}
 use Rattle.placing_laws.proofs.Structured.{Structured}
 use Rattle.placing.specs.meaning.Placement.{Contents, nothing, segment, instance, homes, count, Placed, Allowed, Begins}
-use Rattle.placing.specs.method.Walking.{start, walked, advanced, isAlive, isAtEnd}
+use Rattle.placing.specs.method.Walking.{start, walked, advanced, isAlive}
+use Rattle.placing_laws.specs.laws.AtEnd.{isAtEnd}
 use Rattle.placing_laws.proofs.Trees.{homes-append, one-here, Same, it, other, same, Next, Full, Good, Open, good-open, valid-good, good-valid, good-runs}
-use Rattle.placing_laws.proofs.Walks.{opening-le, lastLine, levels, Parent, last-of, deep-of, depth-of, parent-of, walk-sound, walk-good, walked-nil, dead}
+use Rattle.placing_laws.proofs.Walks.{opening-le, lastLine, levels, Parent, last-of, depth-of, parent-of, walk-sound, walk-good, walked-nil, dead}
 
 module _ (b : Plan) (s : Structured b) where
   -- an explicit completion of what an instance of p holds
@@ -50,7 +52,7 @@ module _ (b : Plan) (s : Structured b) where
 
   -- line x is one of p's
   this-of : (p : ℕ) (ks : Contents) (x : ℕ) → Settled p ks x → x ≤ b .lines → b .depth x ≡ deep b p → Of b p x
-  this-of p ks x e w d = record { after = e .after; within = w; deeper = deep-of b s x (let a = e .after in omega arith) ∙ ap suc d; inside = e .inside }
+  this-of p ks x e w d = record { after = e .after; within = w; deeper = line-deep b x (let a = e .after in omega arith) ∙ ap suc d; inside = e .inside }
 
   next-this : (p : ℕ) (ks : Contents) (x : ℕ) → Settled p ks x → Of b p x → Next b p ks x
   next-this p ks x e o =
@@ -77,7 +79,7 @@ module _ (b : Plan) (s : Structured b) where
       }
     where
       go : (y : ℕ) → p < y → y < suc x → Same y x → deep b p < deep b y
-      go y i j (it h f) = subst (λ (z : ℕ). deep b p < deep b z) (sym h) (let k = deep-of b s x (let a = e .after in omega arith) in omega arith)
+      go y i j (it h f) = subst (λ (z : ℕ). deep b p < deep b z) (sym h) (let k = line-deep b x (let a = e .after in omega arith) in omega arith)
       go y i j (other h f) = e .inside y i (omega arith)
 
       on : (l : ℕ) → Of b p l → b .required l ≡ true → l < suc x → Same l x → 0 < count l us
@@ -153,7 +155,7 @@ module _ (b : Plan) (s : Structured b) where
               let z = ltb-true (b .depth x) (deep b p) hu in
               let a = e .after in
               let y = o .inside x (let v = opening-le b s p in omega arith) (omega arith) in
-              let k = deep-of b s x (omega arith) in
+              let k = line-deep b x (omega arith) in
               omega arith
       go false hv false hu true hd true hr false hg ih inner =
           let o = this-of p ks x e (ltb-false (b .lines) x hv) (eqb-true (b .depth x) (deep b p) hd) in
@@ -243,8 +245,8 @@ module _ (b : Plan) (s : Structured b) where
       record {
         after = omega arith;
         within = omega arith;
-        deeper = deep-of b s (b .lines) (omega arith) ∙ ap suc (s .last .root);
-        inside = λ x i j. let k = deep-of b s x (omega arith) in omega arith;
+        deeper = line-deep b (b .lines) (omega arith) ∙ ap suc (s .last .root);
+        inside = λ x i j. let k = line-deep b x (omega arith) in omega arith;
       }
 
   end-tree : (T : Contents) → Open b 0 T → isAtEnd b (levels 0 T) ≡ true → Good b 0 T × Full b 0 T

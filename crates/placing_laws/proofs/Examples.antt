@@ -2,15 +2,17 @@
 use Prim.Native.Nat.{ℕ}
 use mathlib.Core.Path.{_≡_, refl}
 use mathlib.Core.List.{List, [], _∷_}
+use Rattle.guide.specs.meaning.Edition.{editionNumbered}
 use Rattle.guide.specs.meaning.Guide.{guideOf}
 use Rattle.book_laws.proofs.Bytes.{k}
 use Rattle.book_laws.proofs.Inhabited.{k-is-good}
-use Rattle.guide.specs.meaning.Plan.{Plan, planIn, target}
+use Rattle.guide.specs.meaning.Plan.{Plan, planIn}
+use Rattle.guide.specs.method.Targets.{target}
 use Rattle.placing.specs.meaning.Placement.{Allowed}
 use Rattle.placing.specs.method.Walking.{isPlaceable, isClear, isPassed, canCloseAll, admits, stacked, advanced, walked}
 use Rattle.placing.specs.method.Tree.{openedBy, noted, notedParents}
 use Rattle.guide.specs.meaning.Tree.{climb}
-use Rattle.placing.specs.method.ClosedTree.{lastOf, closed, closedParents}
+use Rattle.placing_laws.specs.laws.ClosedTree.{lastOf, closed, closedParents}
 use Rattle.placing.specs.method.Passes.{testedFrom, tested}
 use Rattle.placing.specs.declared.passes.Placing.the-variants.{Begins, NoHome, Stops}
 use Rattle.placing_laws.proofs.Structured.{structured}
@@ -35,7 +37,7 @@ pub record Table : Type 0 where
   tree-closed : closedParents K positions ≡ 0 ∷ 0 ∷ 0 ∷ 0 ∷ 4 ∷ 0 ∷ 0 ∷ []
 
 pub bench : Table
-unfolding k guideOf testedFrom walked advanced isPlaceable target admits stacked isClear isPassed canCloseAll openedBy noted climb lastOf closed
+unfolding k editionNumbered guideOf testedFrom walked advanced isPlaceable target admits stacked isClear isPassed canCloseAll openedBy noted climb lastOf closed
 bench =
     record {
       three-lin = refl;
@@ -50,5 +52,5 @@ bench =
 
 -- and so a sequence is allowed: the laws speak of something
 pub two-positions-allowed : Allowed K positions
-unfolding k guideOf walked advanced isPlaceable target admits stacked isClear isPassed canCloseAll
+unfolding k editionNumbered guideOf walked advanced isPlaceable target admits stacked isClear isPassed canCloseAll
 two-positions-allowed = end-allowed K (structured k k-is-good) positions refl

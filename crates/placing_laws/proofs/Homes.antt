@@ -27,7 +27,8 @@ use Rattle.reading.specs.meaning.Tag.{tagNumber}
 use Rattle.reading.specs.declared.service.Service.{Service}
 use Rattle.reading.specs.declared.span.Span.{Span}
 use Rattle.reading.specs.declared.cursor.End.the-variants.{At}
-use Rattle.reading.proofs.Comparing.{same-bytes-refl, same-bytes-true}
+use Rattle.reading.proofs.Comparing.{same-bytes-true}
+use Rattle.reading_laws.proofs.OneReading.{same-bytes-refl}
 use Rattle.reading_laws.proofs.Cursors.{end-of-segment}
 use Rattle.reading.proofs.Seeking.{span-by-end}
 use Rattle.reading_laws.proofs.Values.{part-is-value}

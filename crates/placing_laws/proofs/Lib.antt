@@ -4,6 +4,8 @@ pub mod Structured
 -- codes and homes, in the bytes and in the abstract
 pub mod Codes
 pub mod Homes
+-- what the scans over lines find
+pub mod LeavingOut
 -- trees and the walk: what it stands for, how it is completed, that there is one tree at most, where it stops
 pub mod Trees
 pub mod Walks

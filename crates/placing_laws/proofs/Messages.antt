@@ -13,13 +13,13 @@ use Rattle.reading.specs.meaning.WellFormed.{WellFormed}
 use Rattle.reading.specs.declared.service.Service.{Service}
 use Rattle.reading_laws.proofs.Cursors.{written-at}
 use Rattle.guide.specs.meaning.Plan.{Plan, planIn}
-use Rattle.placing.specs.meaning.Fitting.{homeOf}
+use Rattle.placing.specs.meaning.Fitting.{homeOf, homesIn}
 use Rattle.placing.specs.method.Fitting.{homeAt}
 use Rattle.placing.specs.meaning.Placement.{Placed, parentsOf}
 use Rattle.placing.specs.method.Tree.{rootOnly, openedBy, noted, notedParents}
 use Rattle.reading.specs.meaning.Starts.{startsIn, startsOf}
 use Rattle.placing.specs.method.Passes.{homesFrom, entry, startsTable, homesTable, parentsTable, tested}
-use Rattle.placing.specs.meaning.Answers.{Means}
+use Rattle.placing_laws.specs.laws.Answers.{Means}
 use Rattle.reading_laws.proofs.Starts.{starts-long, found-starts}
 use Rattle.placing.proofs.Passing.{filled}
 use Rattle.placing_laws.proofs.Structured.{structured}
@@ -35,7 +35,7 @@ noted-long b k trail (h ∷ hs) = ap suc (noted-long b (suc k) (openedBy b trail
 module _ (s : Service) (service : GoodService s) where
   -- and the homes there
   homes-found : (book : List ℕ) → GoodBook book → (m before : Message) → All ValidSegment m
-      → map (homeAt s (guideOf book) (render s (before ++ m))) (startsIn s before m) ≡ map (homeOf (guideOf book)) m
+      → map (homeAt s (guideOf book) (render s (before ++ m))) (startsIn s before m) ≡ homesIn book m
   unfolding startsIn
   homes-found book good [] before v = refl
   homes-found book good (g ∷ gs) before v =
@@ -47,17 +47,16 @@ module _ (s : Service) (service : GoodService s) where
   module _ (bs : List ℕ) (w : WellFormed s bs) where
     module _ (book : List ℕ) (good : GoodBook book) where
       -- and each segment's home
-      pub found-homes : homesFrom s bs book (length (w .message)) 0 ≡ map (homeOf (guideOf book)) (w .message)
+      pub found-homes : homesFrom s bs book (length (w .message)) 0 ≡ homesIn book (w .message)
       found-homes =
           ap (map (homeAt s (guideOf book) bs)) (found-starts s service bs w) ∙ ap (λ (x : List ℕ). map (homeAt s (guideOf book) x) (startsOf s (w .message))) (w .same)
           ∙ homes-found book good (w .message) [] (w .valid .segments)
 
-      abbrev homes : List ℕ
-      homes = map (homeOf (guideOf book)) (w .message)
-
       -- the test pass: numbers 10 and 11, of the message's homes
-      pub tested-message : Means (planIn book) homes (tested (planIn book) (homesFrom s bs book (length (w .message)) 0))
-      tested-message = subst (λ (hs : List ℕ). Means (planIn book) homes (tested (planIn book) hs)) (sym found-homes) (test-means (planIn book) (structured book good) homes)
+      pub tested-message : Means (planIn book) (homesIn book (w .message)) (tested (planIn book) (homesFrom s bs book (length (w .message)) 0))
+      tested-message =
+          subst (λ (hs : List ℕ). Means (planIn book) (homesIn book (w .message)) (tested (planIn book) hs)) (sym found-homes)
+          (test-means (planIn book) (structured book good) (homesIn book (w .message)))
 
       -- the writing pass: n entries, the message's starts, its homes and its tree, and nothing beyond
       pub starts-table : (table : List ℕ) → length (w .message) ≤ length table
@@ -66,13 +65,14 @@ module _ (s : Service) (service : GoodService s) where
           ap (λ (xs : List ℕ). sets table 0 (map entry xs)) (found-starts s service bs w)
           ∙ filled (map entry (startsOf s (w .message))) table (length (w .message)) (length-map (startsOf s (w .message)) entry ∙ starts-long s service (w .message) []) h
 
-      pub homes-table : (table : List ℕ) → length (w .message) ≤ length table → homesTable s bs book (length (w .message)) table ≡ homes ++ drop (length (w .message)) table
-      homes-table table h = ap (sets table 0) found-homes ∙ filled homes table (length (w .message)) (length-map (w .message) (homeOf (guideOf book))) h
+      pub homes-table : (table : List ℕ) → length (w .message) ≤ length table
+          → homesTable s bs book (length (w .message)) table ≡ homesIn book (w .message) ++ drop (length (w .message)) table
+      homes-table table h = ap (sets table 0) found-homes ∙ filled (homesIn book (w .message)) table (length (w .message)) (length-map (w .message) (homeOf (guideOf book))) h
 
-      pub parents-table : (t : Placed (planIn book) homes) (table : List ℕ) → length (w .message) ≤ length table
+      pub parents-table : (t : Placed (planIn book) (homesIn book (w .message))) (table : List ℕ) → length (w .message) ≤ length table
           → parentsTable s bs book (length (w .message)) table ≡ parentsOf (t .tree) ++ drop (length (w .message)) table
       parents-table t table h =
-          let same = ap (notedParents (planIn book)) found-homes ∙ tree (planIn book) (structured book good) homes t in
+          let same = ap (notedParents (planIn book)) found-homes ∙ tree (planIn book) (structured book good) (homesIn book (w .message)) t in
           ap (sets table 0) same
           ∙ filled (parentsOf (t .tree)) table (length (w .message))
-          (ap length (sym (tree (planIn book) (structured book good) homes t)) ∙ noted-long (planIn book) 0 rootOnly homes ∙ length-map (w .message) (homeOf (guideOf book))) h
+          (ap length (sym (tree (planIn book) (structured book good) (homesIn book (w .message)) t)) ∙ noted-long (planIn book) 0 rootOnly (homesIn book (w .message)) ∙ length-map (w .message) (homeOf (guideOf book))) h

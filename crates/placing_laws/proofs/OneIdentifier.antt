@@ -11,15 +11,17 @@ use mathlib.Core.Logic.{dite}
 use mathlib.Core.Bool.{true, false, true≢false, cond}
 use lib.Dec.{eqb}
 use borrow.Author.Tests.{eq-eqb, eqb-true}
+use Rattle.guide.proofs.Depths.{line-deep}
 use Rattle.guide.specs.meaning.Guide.{guideOf}
 use Rattle.book.specs.meaning.GoodBook.{GoodBook, carrierRule, carrierGroupRule, aroundRule, deeperRule}
 use Rattle.book_laws.proofs.Clauses.{carrier-rule, carrier-group}
 use Rattle.book_laws.proofs.Parents.{ParentOf, parent-exists}
 use Rattle.guide.specs.meaning.Plan.{Plan, planIn, deep, opening, Of}
-use Rattle.placing.specs.meaning.Placement.{Contents, nothing, segment, instance, homes, count, Counted, Runs, Allowed, occurrences}
+use Rattle.placing.specs.meaning.Placement.{Contents, nothing, segment, instance, homes, count, Counted, Runs, Allowed}
+use Rattle.placing_laws.specs.laws.Occurrences.{occurrences}
 use Rattle.placing_laws.proofs.Structured.{Structured, structured}
 use Rattle.placing_laws.proofs.Trees.{one-here, one-other, Same, it, other, same}
-use Rattle.placing_laws.proofs.Walks.{deep-of, opening-le}
+use Rattle.placing_laws.proofs.Walks.{opening-le}
 
 opening-of : (g : ℕ) → 0 < g → opening g ≡ suc g
 opening-of zero h = absurd (omega arith)
@@ -60,7 +62,7 @@ module _ (b : Plan) (s : Structured b) where
   inside-trigger p g o k =
       let t = s .trigger g (omega arith) (o .within) k in
       inside-next g (suc g) (omega arith) (λ y i j. absurd (omega arith))
-      (let u = deep-of b s g (omega arith) in let v = deep-of b s (suc g) (omega arith) in omega arith)
+      (let u = line-deep b g (omega arith) in let v = line-deep b (suc g) (omega arith) in omega arith)
 
   inside-nests : (p g x : ℕ) → p < g → Inside p g → Inside g x → Inside p x
   inside-nests p g x h i j =
@@ -185,7 +187,7 @@ module _ (bs : List ℕ) (good : GoodBook bs) where
       (eq-eqb (guideOf bs .required p) 1 (c .0), c .1)
     where
       below : (y : ℕ) → p + 1 ≤ y → y < p + 1 + (x - p) → guideOf bs .depth p + 1 ≤ guideOf bs .depth y
-      below y j l = let d = i .deeper y (omega arith) (omega arith) in let u = deep-of b s p z in let v = deep-of b s y (omega arith) in omega arith
+      below y j l = let d = i .deeper y (omega arith) (omega arith) in let u = line-deep b p z in let v = line-deep b y (omega arith) in omega arith
 
   -- the parent that the book knows, in the words of placing
   inside-parent : (p t : ℕ) → ParentOf (guideOf bs) p t → Inside b s p t
@@ -193,7 +195,7 @@ module _ (bs : List ℕ) (good : GoodBook bs) where
       let e = q .encloses in
       record {
         from = omega arith;
-        deeper = λ y i j. let d = e .deeper y i j in let u = deep-of b s p (e .first) in let v = deep-of b s y (omega arith) in omega arith;
+        deeper = λ y i j. let d = e .deeper y i j in let u = line-deep b p (e .first) in let v = line-deep b y (omega arith) in omega arith;
       }
 
   of-parent : (p t : ℕ) → ParentOf (guideOf bs) p t → t ≤ b .lines → (suc p ≡ t → ⊥) → Of b p t
@@ -202,7 +204,7 @@ module _ (bs : List ℕ) (good : GoodBook bs) where
       record {
         after = let u = opening-of p z in omega arith;
         within = w;
-        deeper = let u = deep-of b s p z in let v = deep-of b s t (omega arith) in omega arith;
+        deeper = let u = line-deep b p z in let v = line-deep b t (omega arith) in omega arith;
         inside = λ y i j. inside-parent p t q .deeper y i (omega arith);
       }
 
@@ -234,8 +236,8 @@ module _ (bs : List ℕ) (good : GoodBook bs) where
       record {
         after = z;
         within = w;
-        deeper = deep-of b s t z ∙ ap suc d;
-        inside = λ y i j. let v = deep-of b s y i in omega arith;
+        deeper = line-deep b t z ∙ ap suc d;
+        inside = λ y i j. let v = line-deep b y i in omega arith;
       }
 
   -- from parent to parent

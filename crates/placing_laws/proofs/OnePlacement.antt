@@ -5,7 +5,8 @@ use mathlib.Core.Path.{_≡_, refl, sym, ap, _∙_}
 use mathlib.Core.List.{List, [], _∷_, _++_}
 use mathlib.Core.Bool.{Bool, true, false}
 use lib.ListN.{length, length-append}
-use Rattle.guide.specs.meaning.Plan.{Plan, deep, Of, isTrigger, target}
+use Rattle.guide.specs.meaning.Plan.{Plan, deep, Of, isTrigger}
+use Rattle.guide.specs.method.Targets.{target}
 use Rattle.placing_laws.proofs.Structured.{Structured}
 use Rattle.placing.specs.meaning.Placement.{Contents, nothing, segment, instance, homes, Runs, Placed}
 use Rattle.placing_laws.proofs.Walks.{added, homeFor, depth-of, homeFor-trigger, homeFor-target}

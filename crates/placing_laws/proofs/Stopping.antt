@@ -10,11 +10,14 @@ use lib.Dec.{eqb}
 use lib.ListN.{length, getD, take, drop, take-append-drop, length-append, List·getD-append}
 use lib.Seq.{take-append-le, take-all, getD-append-seam}
 use borrow.Author.Tests.{eq-eqb, ne-eqb, eqb-true, eqb-false}
-use Rattle.guide.specs.meaning.Plan.{Plan, isTrigger, target}
+use Rattle.guide.specs.meaning.Plan.{Plan, isTrigger}
+use Rattle.guide.specs.method.Targets.{target}
 use Rattle.placing.specs.meaning.Placement.{Allowed}
 use Rattle.placing.specs.meaning.Placement as placement
-use Rattle.placing.specs.method.Walking.{start, isPlaceable, admits, stacked, entered, advanced, walked, isAlive, isAtEnd}
-use Rattle.placing.specs.meaning.Answers.{HaveHomes, FirstWithout, Means}
+use Rattle.placing.specs.method.Walking.{start, isPlaceable, admits, stacked, entered, advanced, walked, isAlive}
+use Rattle.placing_laws.specs.laws.AtEnd.{isAtEnd}
+use Rattle.placing.specs.meaning.Answers.{HaveHomes, FirstWithout}
+use Rattle.placing_laws.specs.laws.Answers.{Means}
 use Rattle.placing.specs.method.Passes.{firstStop, outcomeOf, testedFrom, tested}
 use Rattle.placing.specs.declared.walk.Level.{Level}
 use Rattle.placing.specs.declared.passes.Placing.{Placing}

@@ -8,11 +8,13 @@ use lib.Dec.{eqb, ltb, leb}
 use lib.ListN.{length, getD, take, drop, length-append}
 use borrow.Author.Tests.{eqb-true, eqb-false, ltb-true, lt-ltb, le-ltb, leb-true, le-leb}
 use Rattle.placing.specs.declared.walk.Level.{Level}
-use Rattle.guide.specs.meaning.Plan.{Plan, deep, opening, Of, isTrigger, target}
+use Rattle.guide.specs.meaning.Plan.{Plan, deep, opening, Of, isTrigger}
+use Rattle.guide.specs.method.Targets.{target}
+use Rattle.guide.proofs.Depths.{line-deep}
 use Rattle.placing_laws.proofs.Structured.{Trigger, Structured}
 use Rattle.placing.specs.meaning.Placement.{Contents, nothing, segment, instance, homes, count, UpTo}
 use Rattle.placing.specs.method.Walking.{level, isPlaceable, isClear, isPassed, canCloseAll, canMove, raised, admits, entered, stacked, advanced, walked, isAlive, SegmentLine}
-use Rattle.placing.proofs.LeavingOut.{clear-none, clear-yes, Skipped, passes-all, passes-yes}
+use Rattle.placing_laws.proofs.LeavingOut.{clear-none, clear-yes, Skipped, passes-all, passes-yes}
 use Rattle.reading.proofs.Booleans.{both, left, right, denied, refuted}
 use Rattle.placing_laws.proofs.Trees.{one-here, Same, it, other, same, Next, Full, Good, Open, good-open}
 
@@ -102,13 +104,8 @@ module _ (b : Plan) (s : Structured b) where
   last-of p (segment ks l) q o = last-on p ks l (λ m. cond (eqb l m) 1 0 + count m ks) (o .2) (λ m. refl) (segment ks l) (λ m. refl)
   last-of p (instance ks g inner) q o = last-on p ks g (λ m. cond (eqb g m) 1 0 + count m ks) (o .2) (λ m. refl) (instance ks g inner) (λ m. refl)
 
-  -- a line is one deeper than its depth says
-  pub deep-of : (x : ℕ) → 0 < x → deep b x ≡ suc (b .depth x)
-  deep-of zero h = absurd (omega arith)
-  deep-of (suc x) h = refl
-
   pub depth-of : (p l : ℕ) → Of b p l → b .depth l ≡ deep b p
-  depth-of p l o = let h = o .deeper in let k = deep-of l (let a = o .after in omega arith) in omega arith
+  depth-of p l o = let h = o .deeper in let k = line-deep b l (let a = o .after in omega arith) in omega arith
 
   -- what one move asks and gives
   record Moved (p : ℕ) (ks : Contents) (o c t : ℕ) : Type 0 where
@@ -121,13 +118,13 @@ module _ (b : Plan) (s : Structured b) where
       record {
         after = let h = a .from in omega arith;
         within = w;
-        deeper = let k = deep-of t (omega arith) in omega arith;
+        deeper = let k = line-deep b t (omega arith) in omega arith;
         inside = λ x j k. go x j k (leb x o) refl;
       }
     where
       go : (x : ℕ) → p < x → x < t → (v : Bool) → leb x o ≡ v → deep b p < deep b x
       go x j k true h = a .inside x j (leb-true x o h)
-      go x j k false h = let u = f x (let z = leb-no h in omega arith) k in let z = deep-of x (omega arith) in omega arith
+      go x j k false h = let u = f x (let z = leb-no h in omega arith) k in let z = line-deep b x (omega arith) in omega arith
         where
           leb-no : leb x o ≡ false → o < x
           leb-no h = borrow.Author.Tests.leb-false x o h
@@ -185,13 +182,13 @@ module _ (b : Plan) (s : Structured b) where
       skip : o < t → (y : ℕ) → suc o ≤ y → y < suc o + (t - suc o) → Skipped b (b .depth t) y
       skip i y j k =
           let h = n .of .inside y (let x = a .from in let z = opening-le p in omega arith) (omega arith) in
-          let z = deep-of y (omega arith) in
+          let z = line-deep b y (omega arith) in
           let ed = e in
           record {
             inside = omega arith;
             free = λ q. refuted (b .required y) (λ r.
                 let of = between-of p o y ks c a j (let w = n .of .within in omega arith) (q ∙ e)
-                (λ x l m. let hx = n .of .inside x (let v = a .from in let z = opening-le p in omega arith) (omega arith) in let zx = deep-of x (omega arith) in omega arith) in
+                (λ x l m. let hx = n .of .inside x (let v = a .from in let z = opening-le p in omega arith) (omega arith) in let zx = line-deep b x (omega arith) in omega arith) in
                 let d = n .done y of r (omega arith) in
                 let u = a .upto y d in omega arith);
           }
@@ -222,7 +219,7 @@ module _ (b : Plan) (s : Structured b) where
         where
           near : (y : ℕ) → suc o ≤ y → y ≤ l → Same y l → deep b p ≤ b .depth y
           near y u v (it e f) = let d = depth-of p l q in let d2 = ap (b .depth) e in omega arith
-          near y u v (other e f) = let d = q .inside y (let x = a .from in let z = opening-le p in omega arith) (omega arith) in let z = deep-of y (omega arith) in omega arith
+          near y u v (other e f) = let d = q .inside y (let x = a .from in let z = opening-le p in omega arith) (omega arith) in let z = line-deep b y (omega arith) in omega arith
 
   full-clear : (p : ℕ) (ks : Contents) (o c : ℕ) → Last p ks o c → Full b p ks → isClear b (deep b p) (suc o) (b .lines - o) ≡ true
   full-clear p ks o c a f =

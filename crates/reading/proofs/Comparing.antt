@@ -11,12 +11,7 @@ use lib.Seq.{drop-cons}
 use borrow.Author.Tests.{eq-eqb, ne-eqb, eqb-true}
 use Rattle.reading.specs.meaning.Component.{sameComponent}
 
--- the answer says whether the bytes are the same
-pub same-bytes-refl : (bs : List ℕ) → sameComponent bs bs ≡ true
-unfolding sameComponent
-same-bytes-refl [] = refl
-same-bytes-refl (b ∷ bs) = rw (eq-eqb b b refl) (same-bytes-refl bs)
-
+-- yes says that the bytes are the same
 pub same-bytes-true : (xs ys : List ℕ) → sameComponent xs ys ≡ true → xs ≡ ys
 unfolding sameComponent
 same-bytes-true [] [] e = refl

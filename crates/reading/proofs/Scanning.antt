@@ -12,7 +12,7 @@ use Rattle.reading.specs.method.Machine.{pick, stepped, isStart, isDead,
 use Rattle.reading.specs.declared.service.Service.{Service}
 use Rattle.reading.specs.declared.machine.State.{State}
 use Rattle.reading.specs.declared.machine.State.the-variants.{Start, Second, Third, Tagged, Inside, Released, Dead}
-use Rattle.reading.specs.meaning.WellFormed.{Segments, BadAt}
+use Rattle.reading.specs.method.Outcome.{Segments, BadAt}
 use Rattle.reading.specs.declared.cursor.End.the-variants.{At, Nowhere}
 use Rattle.reading.proofs.Ending.{at-is, not-at, end-on-within, end-within}
 

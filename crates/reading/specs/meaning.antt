@@ -6,4 +6,3 @@ pub mod Tag
 pub mod WellFormed
 pub mod Component
 pub mod Starts
-pub mod Limits

@@ -10,7 +10,9 @@ use lib.ListN.{length}
 use borrow.Author.Tests.{lt-ltb, ltb-true}
 use Rattle.reading.specs.meaning.Service.{All, GoodService}
 use Rattle.reading.specs.meaning.Message.{Message, ValidSegment, writeSegment, writeSegments}
-use Rattle.reading.specs.meaning.WellFormed.{WellFormed, Means, Segments, BadAt}
+use Rattle.reading.specs.meaning.WellFormed.{WellFormed}
+use Rattle.reading.specs.method.Outcome.{Segments, BadAt}
+use Rattle.reading_laws.specs.laws.Outcome.{Means}
 use Rattle.reading.specs.method.Machine.{pick, stepped, isStart, isDead, ended, finished, scanOn, scanned}
 use Rattle.reading.specs.declared.service.Service.{Service}
 use Rattle.reading.specs.declared.machine.State.{State}

@@ -11,7 +11,8 @@ use lib.ListN.{length, drop, length-append}
 use lib.Seq.{drop-append-seam, drop-drop, drop-length, take-length, take-append-seam, take-append-add}
 use Rattle.reading.specs.meaning.Service.{GoodService}
 use Rattle.reading.specs.meaning.Message.{Segment, Message, ValidSegment, writeElements, writeSegment, writeSegments, render}
-use Rattle.reading.specs.meaning.WellFormed.{SegmentAt, NoSegmentAt, endOf, startAfter}
+use Rattle.reading.specs.meaning.WellFormed.{SegmentAt, NoSegmentAt, endOf}
+use Rattle.reading_laws.specs.laws.Outcome.{startAfter}
 use Rattle.reading.specs.meaning.Component.{span}
 use Rattle.reading.specs.method.Machine.{pick, stepped, isStart, isDead, endOn, segmentEnd, foundBy, nextSegment}
 use Rattle.reading.specs.declared.service.Service.{Service}

@@ -6,7 +6,7 @@ use Rattle.reading.specs.meaning.Service.{standard, isData, isTagByte}
 use Rattle.reading.specs.meaning.Component.{span}
 use Rattle.reading.specs.method.Machine.{kindOf, scanOn, scanned, endOn, isHere, seekOn, componentSpan}
 use Rattle.reading.specs.declared.span.Span.{Span}
-use Rattle.reading.specs.meaning.WellFormed.{Outcome, Segments, BadAt}
+use Rattle.reading.specs.method.Outcome.{Outcome, Segments, BadAt}
 
 -- a message and what a scan of it answers
 messages : List (List ℕ × Outcome)

@@ -12,7 +12,9 @@ use lib.Dec.{ltb}
 use lib.ListN.{length, take}
 use borrow.Author.Tests.{lt-ltb}
 use Rattle.reading.specs.meaning.Service.{GoodService, isTagByte}
-use Rattle.reading.specs.meaning.WellFormed.{WellFormed, Begins, FirstBad, Means, Outcome, Segments, BadAt}
+use Rattle.reading.specs.meaning.WellFormed.{WellFormed, Begins, FirstBad}
+use Rattle.reading.specs.method.Outcome.{Outcome, Segments, BadAt}
+use Rattle.reading_laws.specs.laws.Outcome.{Means}
 use Rattle.reading.specs.method.Machine.{pick, afterTag, afterTagged, afterInside, afterReleased, stepped, isStart, isDead, ended, scanOn, scanned}
 use Rattle.reading.specs.declared.service.Service.{Service}
 use Rattle.reading.specs.declared.machine.State.{State}

@@ -12,9 +12,15 @@ use Rattle.reading.specs.meaning.WellFormed.{WellFormed}
 use Rattle.reading.specs.meaning.Component.{valueFrom, valueOf, sameComponent}
 use Rattle.reading.specs.declared.service.Service.{Service}
 use Rattle.reading_laws.proofs.Services.{release-release, release-component, release-element, release-terminator, component-element, component-release, component-terminator, element-release, element-terminator, terminator-release}
-use Rattle.reading.proofs.Comparing.{same-bytes-refl, same-bytes-true}
+use Rattle.reading.proofs.Comparing.{same-bytes-true}
 
 -- ---- a component alone, under any five characters
+
+-- compared with itself it is the same
+pub same-bytes-refl : (bs : List ℕ) → sameComponent bs bs ≡ true
+unfolding sameComponent
+same-bytes-refl [] = refl
+same-bytes-refl (b ∷ bs) = rw (eq-eqb b b refl) (same-bytes-refl bs)
 
 abbrev pub IsWord : ℕ → Type 0
 IsWord b = isWordByte b ≡ true

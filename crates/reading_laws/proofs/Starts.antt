@@ -5,7 +5,8 @@ use mathlib.Core.List.{List, [], _∷_, _++_, append-assoc}
 use lib.ListN.{length, length-append}
 use Rattle.reading.specs.meaning.Service.{All, GoodService}
 use Rattle.reading.specs.meaning.Message.{Message, Segment, ValidSegment, writeSegments, render}
-use Rattle.reading.specs.meaning.WellFormed.{WellFormed, endOf, startAfter}
+use Rattle.reading.specs.meaning.WellFormed.{WellFormed, endOf}
+use Rattle.reading_laws.specs.laws.Outcome.{startAfter}
 use Rattle.reading.specs.meaning.Starts.{startsIn, startsOf}
 use Rattle.reading.specs.method.Starts.{startsThen, startsFrom}
 use Rattle.reading.specs.declared.service.Service.{Service}

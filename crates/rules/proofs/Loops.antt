@@ -11,15 +11,15 @@ use lib.ListN.{length, getD, drop, List·getD-eq-default}
 use lib.Seq.{drop-cons, drop-length}
 use borrow.Author.Tests.{eq-eqb, ne-eqb, lt-ltb, le-ltb}
 use Rattle.guide.specs.meaning.Guide.{Guide}
-use Rattle.guide.specs.meaning.View.{inUse}
+use Rattle.guide.specs.meaning.View.{inUse, rowNumbered}
 use native.Mathlib.Nat.{mul-le-mul}
 use Rattle.guide.specs.meaning.Plan.{Plan, deep, opening}
 use Rattle.guide.specs.meaning.Tree.{climb}
+use Rattle.guide.proofs.Depths.{line-deep}
 use Rattle.reading.specs.meaning.Component.{sameComponent}
 use Rattle.rules.specs.meaning.Conditions.{said, isUnknown}
-use Rattle.rules.specs.method.FirstFound.{firstUnknown}
 use Rattle.rules.specs.meaning.Rows.{conditionNumber, conditionsOf}
-use Rattle.rules.specs.method.Scanning.{guessed, joined, reading, readRow, rowNumbered, noted}
+use Rattle.rules.specs.method.Scanning.{guessed, joined, reading, readRow, noted, firstUnknown}
 use Rattle.rules.specs.method.Laps.{lapFrom}
 use Rattle.rules.specs.meaning.Identifiers.{identifierValue}
 use Rattle.rules.specs.method.Identifiers.{identifiedFrom}
@@ -152,10 +152,6 @@ opening-group {x} {o} e n = go o e
     go (suc o) q = add-one x ∙ ap suc q
 
 module _ (b : Plan) where
-  deeper : (x : ℕ) → 0 < x → deep b x ≡ suc (b .depth x)
-  deeper zero h = absurd (omega arith)
-  deeper (suc x) h = refl
-
   climb-suc : (d x : ℕ) → climb b d (suc x) ≡ cond (ltb (deep b x) d) x (climb b d x)
   unfolding climb
   climb-suc d x = refl
@@ -167,13 +163,13 @@ module _ (b : Plan) where
   owner-here line at h k l =
       climb-at (deep b line) at (omega arith)
       ∙ ap (λ (t : Bool). cond t (at - 1) (climb b (deep b line) (at - 1)))
-      (lt-ltb (deep b (at - 1)) (deep b line) (let x = deeper line (omega arith) in let y = deeper (at - 1) (omega arith) in omega arith))
+      (lt-ltb (deep b (at - 1)) (deep b line) (let x = line-deep b line (omega arith) in let y = line-deep b (at - 1) (omega arith) in omega arith))
 
   pub owner-on : (line at : ℕ) → 1 < at → at ≤ line → b .depth line ≤ b .depth (at - 1) → climb b (deep b line) at ≡ climb b (deep b line) (at - 1)
   owner-on line at h k l =
       climb-at (deep b line) at (omega arith)
       ∙ ap (λ (t : Bool). cond t (at - 1) (climb b (deep b line) (at - 1)))
-      (le-ltb (deep b (at - 1)) (deep b line) (let x = deeper line (omega arith) in let y = deeper (at - 1) (omega arith) in omega arith))
+      (le-ltb (deep b (at - 1)) (deep b line) (let x = line-deep b line (omega arith) in let y = line-deep b (at - 1) (omega arith) in omega arith))
 
   pub owner-end : (d at : ℕ) → at ≤ 1 → climb b d at ≡ 0
   unfolding climb
@@ -264,6 +260,3 @@ module _ (g : Guide) (value : List ℕ) where
 pub said-in : (cs : List ℕ) (k : ℕ) → (k ≡ 0 → ⊥) → getD cs (k - 1) 0 ≡ said cs k
 said-in cs zero h = absurd (h refl)
 said-in cs (suc j) h = let e : suc j - 1 ≡ j = omega arith in ap (λ (i : ℕ). getD cs i 0) e
-
-pub said-past : (cs : List ℕ) (k : ℕ) → (k ≡ 0 → ⊥) → length cs ≤ k - 1 → 0 ≡ said cs k
-said-past cs k h l = sym (List·getD-eq-default cs 0 l) ∙ said-in cs k h

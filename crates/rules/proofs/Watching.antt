@@ -5,13 +5,12 @@ use mathlib.Core.List.{List}
 use mathlib.Core.Bool.{Bool, true, false, cond, _&&_, _||_, true≢false, false≢true}
 use borrow.Author.Tests.{eq-eqb, ne-eqb}
 use Rattle.guide.specs.meaning.Guide.{Guide}
-use Rattle.guide.specs.meaning.View.{Row, rowNumber, rowOf}
+use Rattle.guide.specs.meaning.View.{Row, rowNumber, rowOf, rowNumbered}
 use Rattle.guide.specs.meaning.Plan.{planOf, opening}
 use Rattle.guide.specs.meaning.Tree.{owner}
-use Rattle.rules.specs.method.FirstFound.{firstUnknown}
 use Rattle.rules.specs.meaning.Rows.{conditionsOf, isBroken}
 use Rattle.rules.specs.meaning.Instances.{shownBy}
-use Rattle.rules.specs.method.Scanning.{readRow, rowNumbered, weighed, breachOf, breachIn, watchOf}
+use Rattle.rules.specs.method.Scanning.{readRow, weighed, breachOf, breachIn, watchOf, firstUnknown}
 use Rattle.rules.specs.declared.breach.Breach.{Breach}
 use Rattle.rules.specs.declared.breach.Breach.the-variants.{Never, Always, Sometimes}
 use Rattle.rules.specs.declared.watch.Watch.{Watch}

@@ -3,9 +3,9 @@
 ghost use mathlib.Core.Path.{_≡_};
 ghost use mathlib.Core.Bool.{cond, not};
 ghost use Rattle.guide.specs.meaning.Guide.{guideOf};
-ghost use Rattle.rules.specs.method.FirstFound.{firstUnknown};
 ghost use Rattle.rules.specs.meaning.Rows.{isBroken, conditionsOf};
-ghost use Rattle.rules.specs.method.Scanning.{readRow, breachOf, isNever, rowNumbered};
+ghost use Rattle.guide.specs.meaning.View.{rowNumbered};
+ghost use Rattle.rules.specs.method.Scanning.{readRow, breachOf, isNever, firstUnknown};
 use crate::conditions;
 use guide::layout;
 use guide::words::JOINT_ANY;

@@ -1,7 +1,22 @@
 // What the caller says of the conditions.
 ghost use mathlib.Core.Path.{_≡_};
 ghost use Rattle.rules.specs.meaning.Conditions.{said};
+ghost use Rattle.rules.specs.method.Conditions.{areTruthValues};
 ghost use Rattle.rules.specs.method.Scanning.{guessed};
+
+// Is each byte 0, 1 or 2: false, true or unknown?
+pub fn are_truth_values(conditions: &[u8]) -> bool
+    ensures { λ r. ⌜ r ≡ areTruthValues (now (conditions .entry)) ⌝ }
+{
+    let mut at = 0;
+    while at < conditions.len() {
+        if 2 < conditions[at] {
+            return false;
+        }
+        at += 1;
+    }
+    true
+}
 
 // 0 false, 1 true, 2 unknown; a condition that the caller does not name is 0.
 pub fn said_of(conditions: &[u8], condition: u32) -> u32
@@ -10,11 +25,7 @@ pub fn said_of(conditions: &[u8], condition: u32) -> u32
     if condition == 0 {
         return 0;
     }
-    let at = condition as usize - 1;
-    if at < conditions.len() {
-        return conditions[at] as u32;
-    }
-    0
+    slices::byte_at(conditions, condition as usize - 1)
 }
 
 // A literal as a row holds it, where one of an unknown condition is taken to be `guess`.

@@ -8,3 +8,5 @@ pub mod first_row;
 pub mod identifier;
 mod instances;
 mod watch;
+
+pub use conditions::are_truth_values;

@@ -16,9 +16,9 @@ use Rattle.book.specs.meaning.GoodBook.{GoodBook}
 use Rattle.guide.specs.meaning.View.{Row, rowOf, inUse}
 use Rattle.book_laws.proofs.ViewedRows.{NumbersRise, plain-row, row-expression}
 use Rattle.rules.specs.meaning.Conditions.{Assignment, isUnknown, told, Filling}
-use Rattle.rules.specs.method.FirstFound.{some, every, firstUnknown}
+use Rattle.rules_laws.specs.laws.FirstFound.{some, every}
 use Rattle.rules.specs.meaning.Rows.{conditionNumber, isNegated, literal, allHold, anyHolds, expression, conditionsOf, isBroken}
-use Rattle.rules.specs.method.Scanning.{guessed, joined, reading, readRow, weighed, breachOf}
+use Rattle.rules.specs.method.Scanning.{guessed, joined, reading, readRow, weighed, breachOf, firstUnknown}
 use Rattle.rules.specs.declared.breach.Breach.the-variants.{Never, Always, Sometimes}
 use Rattle.rules_laws.proofs.Fillings.{Agree, LooksAt, some-is, some-has}
 use Rattle.reading.proofs.Booleans.{or-true}

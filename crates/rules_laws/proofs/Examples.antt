@@ -6,11 +6,14 @@ use mathlib.Core.Path.{_≡_, refl, sym, ap, _∙_, subst}
 use mathlib.Core.Logic.{_↔_}
 use mathlib.Core.List.{List, [], _∷_}
 use mathlib.Core.Bool.{Bool, true, false, not, _&&_, true≢false}
+use Rattle.reading.specs.meaning.Service.{All}
+use Rattle.guide.specs.meaning.Edition.{editionNumbered}
 use Rattle.guide.specs.meaning.Guide.{Guide, guideOf}
 use Rattle.guide.specs.meaning.View.{Row}
 use Rattle.book_laws.proofs.Bytes.{k}
 use Rattle.book_laws.proofs.Inhabited.{k-is-good}
-use Rattle.guide.specs.meaning.Plan.{planIn, target}
+use Rattle.guide.specs.meaning.Plan.{planIn}
+use Rattle.guide.specs.method.Targets.{target}
 use Rattle.placing.specs.meaning.Placement.{Placed, Allowed}
 use Rattle.placing.specs.method.Walking.{isPlaceable, isClear, isPassed, canCloseAll, admits, stacked, advanced, walked}
 use Rattle.guide.specs.meaning.Tree.{climb}
@@ -21,19 +24,18 @@ use Rattle.placing_laws.proofs.Completing.{end-allowed}
 use Rattle.placing_laws.proofs.Examples.{two-positions-allowed}
 use Rattle.reading.specs.meaning.Component.{sameComponent}
 use Rattle.rules.specs.meaning.Conditions.{Assignment, Fills}
-use Rattle.rules.specs.method.FirstFound.{some, firstUnknown, foundAmong, firstRow}
+use Rattle.rules_laws.specs.laws.FirstFound.{some, foundAmong, firstRow}
 use Rattle.rules.specs.meaning.Rows.{literal, allHold, anyHolds}
 use Rattle.rules.specs.meaning.Instances.{segmentsOf, firstIn}
 use Rattle.rules.specs.meaning.Entries.{entriesIn, entriesFrom, entriesOf}
 use Rattle.rules_laws.specs.meaning.OnTree.{RulesHold}
-use Rattle.rules.specs.method.Scanning.{reading, breachOf, instancesFrom, scannedIn, scannedFrom, scannedRow}
+use Rattle.rules.specs.method.Scanning.{reading, breachOf, instancesFrom, scannedIn, scannedFrom, scannedRow, firstUnknown}
 use Rattle.rules.specs.method.Identifiers.{identifiedFrom, identified}
 use Rattle.rules.specs.declared.breach.Breach.the-variants.{Never, Always, Sometimes}
 use Rattle.rules.specs.declared.finding.Finding.{Finding}
 use Rattle.rules.specs.declared.finding.Finding.the-variants.{Kept, Broken, Unsettled}
 use Rattle.rules.specs.declared.identifier.Identified.the-variants.{Known, Foreign}
 use Rattle.rules_laws.proofs.Scanned.{scanned}
-use Rattle.rules_laws.proofs.Keys.{All}
 use Rattle.rules_laws.proofs.OnTree.{rules-on-tree}
 use Rattle.rules_laws.proofs.SureOrOpen.{unsettled}
 
@@ -75,7 +77,7 @@ pub record Table : Type 0 where
   too-short : identified K (49 ∷ 48 ∷ 48 ∷ 48 ∷ []) ≡ Foreign
 
 pub bench : Table
-unfolding k guideOf target openedBy noted climb some firstUnknown literal allHold anyHolds segmentsOf firstIn entriesIn entriesFrom foundAmong reading instancesFrom scannedIn scannedFrom sameComponent identifiedFrom
+unfolding k editionNumbered guideOf target openedBy noted climb some firstUnknown literal allHold anyHolds segmentsOf firstIn entriesIn entriesFrom foundAmong reading instancesFrom scannedIn scannedFrom sameComponent identifiedFrom
 bench =
     record {
       no-position = (refl, refl);
@@ -136,7 +138,7 @@ two-positions = scanned k k-is-good 0 (omega arith) lin-qty-lin two-positions-al
 -- and the laws on what is known and not known: two fillings that make an open message another
 pub two-fillings : (fs : List ℕ) × (gs : List ℕ) × Fills (2 ∷ []) fs × Fills (2 ∷ []) gs
     × (firstRow K 0 fs lin-qty (notedParents (planIn k) lin-qty) ≡ firstRow K 0 gs lin-qty (notedParents (planIn k) lin-qty) → ⊥)
-unfolding k guideOf target openedBy noted climb some firstUnknown literal allHold anyHolds segmentsOf firstIn entriesIn entriesFrom foundAmong
+unfolding k editionNumbered guideOf target openedBy noted climb some firstUnknown literal allHold anyHolds segmentsOf firstIn entriesIn entriesFrom foundAmong
 two-fillings = unsettled k k-is-good 0 lin-qty (notedParents (planIn k) lin-qty) (2 ∷ []) .0 tt
 
 -- ---- the rules on the tree: each LIN must have its own QTY exactly if condition 1 is true
@@ -170,7 +172,7 @@ must-not true e = absurd (true≢false e)
 must-not false e = refl
 
 pub on-tree : OnTree
-unfolding k guideOf target openedBy noted climb literal allHold segmentsOf firstIn entriesIn entriesFrom walked advanced isPlaceable admits stacked isClear isPassed canCloseAll
+unfolding k editionNumbered guideOf target openedBy noted climb literal allHold segmentsOf firstIn entriesIn entriesFrom walked advanced isPlaceable admits stacked isClear isPassed canCloseAll
 on-tree =
     record {
       one-with = (

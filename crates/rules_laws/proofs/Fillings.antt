@@ -13,7 +13,7 @@ use lib.ListN.{length, getD, set, List·getD-eq-default}
 use lib.Seq.{getD-set-same, getD-set-other}
 use borrow.Author.Tests.{eq-eqb, ne-eqb, eqb-true, eqb-false, ltb-true, ltb-false, not-true, not-false}
 use Rattle.rules.specs.meaning.Conditions.{Assignment, said, isUnknown, told, Filling, Chosen, Fills, Learned, Learns}
-use Rattle.rules.specs.method.FirstFound.{filled, some, every}
+use Rattle.rules_laws.specs.laws.FirstFound.{filled, some, every}
 use Rattle.reading.proofs.Booleans.{one-of, or-left, or-right}
 
 -- two assignments that give these conditions the same values, and a test that looks at no others

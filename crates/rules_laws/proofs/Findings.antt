@@ -7,16 +7,18 @@ use mathlib.Core.Path.{_≡_, refl, sym, ap, _∙_, subst}
 use mathlib.Core.Logic.{_⊎_, inl, inr, _↔_}
 use mathlib.Core.List.{List, [], _∷_, _++_, map}
 use mathlib.Core.Bool.{Bool, true, false, not, cond, true≢false, false≢true}
+use Rattle.reading.specs.meaning.Service.{All}
 use Rattle.guide.specs.meaning.Guide.{guideOf}
 use Rattle.book.specs.meaning.GoodBook.{GoodBook}
 use Rattle.guide.specs.meaning.View.{rowOf, inUse}
 use Rattle.book_laws.proofs.ViewedRows.{NumbersRise}
 use Rattle.rules.specs.meaning.Conditions.{Assignment, isUnknown, told}
-use Rattle.rules.specs.method.FirstFound.{some, every, firstUnknown, foundUnder, foundAmong, firstRow}
+use Rattle.rules.specs.method.Scanning.{firstUnknown}
+use Rattle.rules_laws.specs.laws.FirstFound.{some, every, foundUnder, foundAmong, firstRow}
 use Rattle.rules.specs.meaning.Rows.{conditionNumber, conditionsOf}
 use Rattle.rules.specs.meaning.Entries.{Entry, entryFor, entriesOf}
 use Rattle.rules.specs.declared.finding.Finding.the-variants.{Kept, Broken, Unsettled}
-use Rattle.rules_laws.proofs.Keys.{All, In, all-entries, all-of}
+use Rattle.rules_laws.proofs.Keys.{In, all-entries, all-of}
 use Rattle.rules_laws.proofs.Exact.{row-rises}
 
 -- ---- under one assignment

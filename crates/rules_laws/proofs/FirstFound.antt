@@ -6,13 +6,15 @@ use mathlib.Core.Path.{_≡_, refl, sym, ap, _∙_, subst}
 use mathlib.Core.Logic.{_↔_}
 use mathlib.Core.List.{List, [], _∷_, _++_}
 use mathlib.Core.Bool.{true, false, cond, true≢false}
+use Rattle.reading.specs.meaning.Service.{All}
 use Rattle.guide.specs.meaning.Guide.{Guide}
 use Rattle.rules.specs.meaning.Conditions.{Assignment, told, Filling}
-use Rattle.rules.specs.method.FirstFound.{some, firstUnknown, reported, foundAmong, firstRow}
-use Rattle.rules.specs.meaning.Entries.{Entry, entriesOf}
+use Rattle.rules.specs.method.Scanning.{firstUnknown}
+use Rattle.rules_laws.specs.laws.FirstFound.{some, reported, foundAmong, firstRow}
+use Rattle.rules.specs.meaning.Entries.{Entry, entriesOf, SomeBreaks, EveryBreaks}
 use Rattle.rules.specs.declared.finding.Finding.{Finding}
 use Rattle.rules.specs.declared.finding.Finding.the-variants.{Kept, Broken, Unsettled}
-use Rattle.rules_laws.proofs.Keys.{All, Looks, looks}
+use Rattle.rules_laws.proofs.Keys.{Looks, looks}
 use Rattle.rules_laws.proofs.SureOrOpen.{Over, never, always, sometimes, over}
 
 -- ---- a row over all fillings
@@ -20,12 +22,8 @@ use Rattle.rules_laws.proofs.SureOrOpen.{Over, never, always, sometimes
 abbrev pub KeptIn : List ℕ → Entry → Type 0
 KeptIn cs e = (a : Assignment) → Filling cs a → e .isBrokenBy a ≡ false
 
-abbrev pub BrokenIn : List ℕ → Entry → Type 0
-BrokenIn cs e = (a : Assignment) → Filling cs a → e .isBrokenBy a ≡ true
-
 abbrev pub BrokenInSome : List ℕ → Entry → Type 0
-BrokenInSome cs e =
-    ((a : Assignment) × Filling cs a × (e .isBrokenBy a ≡ true)) × ((a : Assignment) × Filling cs a × (e .isBrokenBy a ≡ false))
+BrokenInSome cs e = SomeBreaks cs e × ((a : Assignment) × Filling cs a × (e .isBrokenBy a ≡ false))
 
 -- the first row that is not kept in all fillings, and what holds of it
 pub record First (cs : List ℕ) (es : List Entry) (P : Entry → Type 0) : Type 0 where
@@ -40,7 +38,7 @@ abbrev pub Reported : ℕ → ℕ → Entry → Type 0
 Reported k l e = (e .place ≡ k) × (e .line ≡ l)
 
 abbrev pub ByEvery : List ℕ → ℕ → ℕ → Entry → Type 0
-ByEvery cs k l e = Reported k l e × BrokenIn cs e
+ByEvery cs k l e = Reported k l e × EveryBreaks cs e
 
 abbrev pub BySome : List ℕ → ℕ → ℕ → ℕ → Entry → Type 0
 BySome cs k l c e = Reported k l e × BrokenInSome cs e × (firstUnknown cs (e .conditions) ≡ c)
@@ -81,7 +79,7 @@ says cs (e ∷ es) l = go (over cs e (l .0)) (says cs es (l .1))
     go (always s t h) r = rw (s, t) (at-once cs e es (ByEvery cs (e .place) (e .line)) ((refl, refl), h))
     go (sometimes s t x y) r =
         rw (s, t) (at-once cs e es (BySome cs (e .place) (e .line) (firstUnknown cs (e .conditions)))
-        ((refl, refl), ((x .a, x .filling, x .gives), (y .a, y .filling, y .gives)), refl))
+        ((refl, refl), (record { filling = x .a; fills = x .filling; breaks = x .gives }, (y .a, y .filling, y .gives)), refl))
 
 -- ---- and what says it
 
@@ -94,7 +92,7 @@ some-kept cs e l h = go (over cs e l)
     go (always s t k) = absurd (true≢false (sym (k (told cs) (λ _ _. refl)) ∙ h (told cs) (λ _ _. refl)))
     go (sometimes s t x y) = absurd (true≢false (sym (x .gives) ∙ h (x .a) (x .filling)))
 
-every-broken : (cs : List ℕ) (e : Entry) → Looks e → BrokenIn cs e → reported cs e ≡ Broken (e .place) (e .line)
+every-broken : (cs : List ℕ) (e : Entry) → Looks e → EveryBreaks cs e → reported cs e ≡ Broken (e .place) (e .line)
 every-broken cs e l h = go (over cs e l)
   where
     go : Over cs e → reported cs e ≡ Broken (e .place) (e .line)
@@ -114,7 +112,7 @@ some-open : (cs : List ℕ) (e : Entry) → Looks e → BrokenInSome cs e → re
 some-open cs e l h = go (over cs e l)
   where
     go : Over cs e → reported cs e ≡ Unsettled (e .place) (e .line) (firstUnknown cs (e .conditions))
-    go (never s k) = absurd (true≢false (sym (h .0 .2) ∙ k (h .0 .0) (h .0 .1)))
+    go (never s k) = absurd (true≢false (sym (h .0 .breaks) ∙ k (h .0 .filling) (h .0 .fills)))
     go (always s t k) = absurd (true≢false (sym (k (h .1 .0) (h .1 .1)) ∙ h .1 .2))
     go (sometimes s t x y) = rw t
 
@@ -149,7 +147,7 @@ module _ (cs : List ℕ) (es : List Entry) (l : All Looks es) where
       let o = first-looks (f .before) (f .row) (f .behind) n in
       let b = f .is .1 .0 in
       ap (foundAmong cs) (f .all)
-      ∙ first-stops cs (f .before) (f .row) (f .behind) n (f .kept) (some-broken cs (f .row) o (b .0) (b .1) (b .2))
+      ∙ first-stops cs (f .before) (f .row) (f .behind) n (f .kept) (some-broken cs (f .row) o (b .filling) (b .fills) (b .breaks))
       ∙ some-open cs (f .row) o (f .is .1) ∙ (λ i. Unsettled (f .is .0 .0 i) (f .is .0 .1 i) (f .is .2 i))
 
   said-of : (v : Finding) → foundAmong cs es ≡ v → Says cs es v

@@ -11,7 +11,8 @@ use Rattle.guide.specs.meaning.Guide.{Guide, guideOf}
 use Rattle.book.specs.meaning.GoodBook.{GoodBook, identifierNumber, identifierRises}
 use Rattle.book_laws.proofs.Clauses.{identifier-rule}
 use Rattle.reading.specs.meaning.Component.{sameComponent}
-use Rattle.reading.proofs.Comparing.{same-bytes-refl, same-bytes-true}
+use Rattle.reading.proofs.Comparing.{same-bytes-true}
+use Rattle.reading_laws.proofs.OneReading.{same-bytes-refl}
 use Rattle.rules.specs.meaning.Identifiers.{identifierValue}
 use Rattle.rules.specs.method.Identifiers.{identifiedFrom, identified}
 use Rattle.rules.specs.declared.identifier.Identified.{Identified}

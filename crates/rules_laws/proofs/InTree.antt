@@ -8,7 +8,9 @@ use mathlib.Core.List.{List, [], _∷_}
 use mathlib.Core.Bool.{Bool, true, false, not, cond, _&&_, true≢false}
 use lib.Dec.{eqb, leb}
 use borrow.Author.Tests.{eqb-true, eqb-false, le-leb, lt-leb}
-use Rattle.guide.specs.meaning.Plan.{Plan, Of, isTrigger, target}
+use Rattle.reading.specs.meaning.Service.{All}
+use Rattle.guide.specs.meaning.Plan.{Plan, Of, isTrigger}
+use Rattle.guide.specs.method.Targets.{target}
 use Rattle.placing.specs.meaning.Placement.{Contents, nothing, segment, instance, homes, homesOf, size, count, Counted, Runs, parents, parentsOf}
 use Rattle.placing_laws.proofs.Structured.{Structured}
 use Rattle.placing_laws.proofs.Trees.{Same, it, other, same}
@@ -61,32 +63,28 @@ trigger-in tree (suc g) t x h i = inside-range tree 0 (suc g) t x i .0
 
 -- ---- they are those that the homes give
 
-abbrev pub Each : (ℕ → Type 0) → List ℕ → Type 0
-Each P [] = Unit {0}
-Each P (t ∷ ts) = P t × Each P ts
-
 module _ (P : ℕ → Type 0) (h : ℕ) where
   -- of each segment of home h, where the first of these has number j
   abbrev EachOf : ℕ → List ℕ → Type 0
   EachOf j [] = Unit {0}
   EachOf j (x ∷ hs) = (x ≡ h → P j) × EachOf (suc j) hs
 
-  each-of : (j : ℕ) (hs : List ℕ) → Each P (segmentsOf h j hs) → EachOf j hs
+  each-of : (j : ℕ) (hs : List ℕ) → All P (segmentsOf h j hs) → EachOf j hs
   unfolding segmentsOf
   each-of j [] a = tt
   each-of j (x ∷ hs) a = go (eqb x h) refl a (each-of (suc j) hs)
     where
-      go : (t : Bool) → eqb x h ≡ t → Each P (cond t (j ∷ segmentsOf h (suc j) hs) (segmentsOf h (suc j) hs))
-          → (Each P (segmentsOf h (suc j) hs) → EachOf (suc j) hs) → (x ≡ h → P j) × EachOf (suc j) hs
+      go : (t : Bool) → eqb x h ≡ t → All P (cond t (j ∷ segmentsOf h (suc j) hs) (segmentsOf h (suc j) hs))
+          → (All P (segmentsOf h (suc j) hs) → EachOf (suc j) hs) → (x ≡ h → P j) × EachOf (suc j) hs
       go true e a ih = (λ _. a .0, ih (a .1))
       go false e a ih = (λ q. absurd (eqb-false x h e q), ih a)
 
-  of-each : (j : ℕ) (hs : List ℕ) → EachOf j hs → Each P (segmentsOf h j hs)
+  of-each : (j : ℕ) (hs : List ℕ) → EachOf j hs → All P (segmentsOf h j hs)
   unfolding segmentsOf
   of-each j [] a = tt
   of-each j (x ∷ hs) a = go (eqb x h) refl (of-each (suc j) hs (a .1))
     where
-      go : (t : Bool) → eqb x h ≡ t → Each P (segmentsOf h (suc j) hs) → Each P (cond t (j ∷ segmentsOf h (suc j) hs) (segmentsOf h (suc j) hs))
+      go : (t : Bool) → eqb x h ≡ t → All P (segmentsOf h (suc j) hs) → All P (cond t (j ∷ segmentsOf h (suc j) hs) (segmentsOf h (suc j) hs))
       go true e r = (a .0 (eqb-true x h e), r)
       go false e r = r
 
@@ -317,12 +315,12 @@ module _ (b : Plan) (s : Structured b) (l : ℕ) (from : 1 ≤ l) (plain : isTri
 
 module _ (b : Plan) (s : Structured b) (tree : Contents) (runs : Runs b 0 tree) where
   -- the lists give every instance of the tree
-  pub of-instances : (P : ℕ → Type 0) (o t : ℕ) (x : Contents) → InTree tree o t x → Each P (instancesOf o (homesOf tree)) → P t
+  pub of-instances : (P : ℕ → Type 0) (o t : ℕ) (x : Contents) → InTree tree o t x → All P (instancesOf o (homesOf tree)) → P t
   of-instances P zero t x i a = subst P (sym (i .0)) (a .0)
   of-instances P (suc g) t x i a = of-inside P (suc g) t x tree 0 [] i (each-of P (suc (suc g)) 1 (homesOf tree) a)
 
   -- and no other
-  pub each-instance : (P : ℕ → Type 0) (o : ℕ) → (0 < o → b .group o ≡ true) → ((t : ℕ) (x : Contents) → InTree tree o t x → P t) → Each P (instancesOf o (homesOf tree))
+  pub each-instance : (P : ℕ → Type 0) (o : ℕ) → (0 < o → b .group o ≡ true) → ((t : ℕ) (x : Contents) → InTree tree o t x → P t) → All P (instancesOf o (homesOf tree))
   each-instance P zero grp f = (f 0 tree (refl, refl), tt)
   each-instance P (suc g) grp f =
       of-each P (suc (suc g)) 1 (homesOf tree) (each-inside b s P (suc g) (omega arith) (grp (omega arith)) 0 tree runs 0 [] f tt)

@@ -9,9 +9,10 @@ use mathlib.Core.Bool.{Bool, true, false, cond, _&&_}
 use lib.Dec.{eqb}
 use lib.ListN.{length, length-append}
 use borrow.Author.Tests.{eq-eqb, ne-eqb, eqb-true, eqb-false}
-use Rattle.guide.specs.meaning.Plan.{Plan, opening, isTrigger, target}
+use Rattle.guide.specs.meaning.Plan.{Plan, opening, isTrigger}
+use Rattle.guide.specs.method.Targets.{target}
 use Rattle.guide.specs.meaning.Tree.{owner}
-use Rattle.placing.specs.method.ClosedTree.{lastOf, heldBy, closed, closedParents}
+use Rattle.placing_laws.specs.laws.ClosedTree.{lastOf, heldBy, closed, closedParents}
 use Rattle.placing_laws.proofs.Structured.{Structured}
 use Rattle.rules.specs.meaning.Instances.{segmentsOf, instancesOf, shownBy, firstIn, firstOf}
 use Rattle.rules.specs.method.Scanning.{Instance, instanceOf, noted, begun, instancesFrom, behindFirst, instancesIn}

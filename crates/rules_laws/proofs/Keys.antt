@@ -15,6 +15,7 @@ use Rattle.book.specs.meaning.GoodBook.{GoodBook}
 use Rattle.guide.specs.meaning.View.{rowOf}
 use Rattle.guide.specs.meaning.Plan.{planOf, opening, isTrigger}
 use Rattle.guide.specs.meaning.Tree.{owner}
+use Rattle.reading.specs.meaning.Service.{All}
 use Rattle.placing_laws.proofs.Structured.{Structured, structured}
 use Rattle.rules.specs.meaning.Instances.{segmentsOf, instancesOf, shownBy, firstIn, firstOf, isPresent, placeIn}
 use Rattle.rules.specs.meaning.Entries.{Entry, entryFor, entriesIn, entriesFrom, entriesOf}
@@ -23,10 +24,6 @@ use Rattle.rules_laws.proofs.Exact.{breaks-looks}
 use Rattle.rules_laws.proofs.Lines.{apart}
 
 -- ---- of all entries, and of one among them
-
-abbrev pub All : (Entry → Type 0) → List Entry → Type 0
-All P [] = Unit {0}
-All P (e ∷ es) = P e × All P es
 
 abbrev pub In : Entry → List Entry → Type 0
 In e [] = ⊥

@@ -8,12 +8,13 @@ use mathlib.Core.List.{List, [], _∷_}
 use mathlib.Core.Bool.{Bool, true, false, cond, false≢true}
 use lib.Dec.{ltb}
 use borrow.Author.Tests.{lt-ltb, le-ltb, ltb-true, ltb-false}
-use Rattle.guide.specs.meaning.Plan.{Plan, deep, opening, Of, isTrigger, target}
+use Rattle.guide.proofs.Depths.{line-deep}
+use Rattle.guide.specs.meaning.Plan.{Plan, deep, opening, Of, isTrigger}
+use Rattle.guide.specs.method.Targets.{target}
 use Rattle.placing.specs.meaning.Placement.{Contents, nothing, segment, instance, homes, Runs, Placed}
 use Rattle.guide.specs.meaning.Tree.{climb, owner}
 use Rattle.placing_laws.proofs.Structured.{Structured}
 use Rattle.placing_laws.proofs.Trees.{Same, it, other, same}
-use Rattle.placing_laws.proofs.Walks.{deep-of}
 use Rattle.rules.specs.meaning.Instances.{shownBy}
 
 climb-before : (b : Plan) (d x : ℕ) → 0 < x → climb b d x < x
@@ -160,14 +161,14 @@ module _ (b : Plan) (s : Structured b) where
       go x (suc q) e =
           let n = next in
           let h = c .higher in
-          let u = deep-of b s p (omega arith) in
+          let u = line-deep b p (omega arith) in
           let grp : b .group p ≡ true = not-false (b .group p) (λ f. let y = s .falls p (omega arith) (omega arith) f in omega arith) in
           let t = s .trigger p (omega arith) (omega arith) grp .deeper in
           omega arith
 
   pub of-owner : (l : ℕ) → 1 ≤ l → l ≤ b .lines → isTrigger b l ≡ false → Of b (owner b l) l
   of-owner l i j n =
-      let c = climbed b (deep b l) l (let u = deep-of b s l i in omega arith) (omega arith) in
+      let c = climbed b (deep b l) l (let u = line-deep b l i in omega arith) (omega arith) in
       let h = c .higher in
       record {
         after = owner-before b s l i j n;
@@ -182,7 +183,7 @@ module _ (b : Plan) (s : Structured b) where
       not-false (b .group o)
       (λ f. let z = behind-opening o h in
       let d = of .inside (suc o) (omega arith) (omega arith) in
-      let u = deep-of b s o h in
+      let u = line-deep b o h in
       let y = s .falls o h (omega arith) f in
       omega arith)
     where

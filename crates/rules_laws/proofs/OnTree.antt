@@ -7,6 +7,7 @@ use mathlib.Core.Logic.{inl, inr, _↔_}
 use mathlib.Core.List.{List, [], _∷_, _++_}
 use mathlib.Core.Bool.{Bool, true, false, not, cond, false≢true}
 use borrow.Author.Tests.{ne-eqb}
+use Rattle.reading.specs.meaning.Service.{All}
 use Rattle.guide.specs.meaning.Guide.{Guide, guideOf}
 use Rattle.book.specs.meaning.GoodBook.{GoodBook}
 use Rattle.guide.specs.meaning.Plan.{Plan, planOf, planIn, Of, isTrigger}
@@ -21,8 +22,8 @@ use Rattle.rules.specs.meaning.Instances.{instancesOf, shownBy, firstIn, firstO
 use Rattle.rules.specs.meaning.Entries.{Entry, entriesIn, entriesFrom, entriesOf}
 use Rattle.rules_laws.specs.meaning.OnTree.{hasLine, KeepsRow, LinesKeep, InstancesKeep, RulesHold}
 use Rattle.rules_laws.proofs.Lines.{trigger-owner, trigger-group, of-owner, group-owner}
-use Rattle.rules_laws.proofs.InTree.{Inside, InTree, Each, inside-runs, trigger-in, of-instances, each-instance, present-in}
-use Rattle.rules_laws.proofs.Keys.{All, all-append}
+use Rattle.rules_laws.proofs.InTree.{Inside, InTree, inside-runs, trigger-in, of-instances, each-instance, present-in}
+use Rattle.rules_laws.proofs.Keys.{all-append}
 
 -- ---- the entries, line by line
 
@@ -39,14 +40,14 @@ module _ (g : Guide) (p : ℕ) (a : Assignment) (hs ps : List ℕ) where
   KeptAt l t = KeepsRow g p a l (isPresent (firstOf (planOf g) l t hs ps))
 
   abbrev LineKept : ℕ → Type 0
-  LineKept l = Each (KeptAt l) (instancesOf (owner (planOf g) l) hs)
+  LineKept l = All (KeptAt l) (instancesOf (owner (planOf g) l) hs)
 
-  entries-in : (l : ℕ) (ts : List ℕ) → Each (KeptAt l) ts → All Kept (entriesIn g p l hs ps ts)
+  entries-in : (l : ℕ) (ts : List ℕ) → All (KeptAt l) ts → All Kept (entriesIn g p l hs ps ts)
   unfolding entriesIn
   entries-in l [] h = tt
   entries-in l (t ∷ ts) h = (h .0, entries-in l ts (h .1))
 
-  in-entries : (l : ℕ) (ts : List ℕ) → All Kept (entriesIn g p l hs ps ts) → Each (KeptAt l) ts
+  in-entries : (l : ℕ) (ts : List ℕ) → All Kept (entriesIn g p l hs ps ts) → All (KeptAt l) ts
   unfolding entriesIn
   in-entries l [] h = tt
   in-entries l (t ∷ ts) h = (h .0, in-entries l ts (h .1))
@@ -138,7 +139,7 @@ module _ (g : Guide) (st : Structured (planOf g)) (p : ℕ) (a : Assignment) (tr
   module _ (kept : (l : ℕ) → 1 ≤ l → l ≤ b .lines → LineKept g p a hs ps l) where
     kept-at : (l o : ℕ) → 1 ≤ l → l ≤ b .lines → owner b l ≡ o → (t : ℕ) (x : Contents) → InTree tree o t x → KeptAt g p a hs ps l t
     kept-at l o i j e t x n =
-        of-instances b st tree runs (KeptAt g p a hs ps l) o t x n (subst (λ (q : ℕ). Each (KeptAt g p a hs ps l) (instancesOf q hs)) e (kept l i j))
+        of-instances b st tree runs (KeptAt g p a hs ps l) o t x n (subst (λ (q : ℕ). All (KeptAt g p a hs ps l) (instancesOf q hs)) e (kept l i j))
 
     lines-keep : (o t : ℕ) (x : Contents) → InTree tree o t x → LinesKeep g p a o x
     lines-keep o t x n l of =

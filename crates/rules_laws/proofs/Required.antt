@@ -6,13 +6,14 @@ use mathlib.Core.Path.{_≡_, refl, sym, ap, _∙_, subst}
 use mathlib.Core.List.{List}
 use mathlib.Core.Bool.{Bool, true, false, not, cond, false≢true}
 use borrow.Author.Tests.{eq-eqb, le-leb}
+use Rattle.reading.specs.meaning.Service.{All}
 use Rattle.guide.specs.meaning.Plan.{Plan, isTrigger}
 use Rattle.placing.specs.meaning.Placement.{Contents, homesOf, count, Placed, parentsOf}
 use Rattle.guide.specs.meaning.Tree.{owner}
 use Rattle.placing_laws.proofs.Structured.{Structured}
 use Rattle.rules.specs.meaning.Instances.{instancesOf, shownBy, firstIn, firstOf, isPresent}
 use Rattle.rules_laws.proofs.Lines.{trigger-owner, of-owner, group-owner}
-use Rattle.rules_laws.proofs.InTree.{Each, InTree, counted-in, trigger-in, each-instance, present-in}
+use Rattle.rules_laws.proofs.InTree.{InTree, counted-in, trigger-in, each-instance, present-in}
 
 present-seen : (seen : ℕ) → isPresent seen ≡ true → seen ≡ 0 → ⊥
 present-seen seen h e = false≢true (sym (ap not (eq-eqb seen 0 e)) ∙ h)
@@ -29,8 +30,8 @@ module _ (b : Plan) (s : Structured b) (hs : List ℕ) (placed : Placed b hs) (l
       present-seen _ (present-in b s (placed .tree) (placed .runs) l from e (owner b l) t x i
       ∙ le-leb 1 (count l x) (counted-in b (placed .tree) (placed .runs) (placed .counted) (owner b l) t x i l (of-owner b s l from to e) .1 required))
 
-  pub required-present : Each (λ t. firstOf b l t hs (parentsOf (placed .tree)) ≡ 0 → ⊥) (instancesOf (owner b l) hs)
+  pub required-present : All (λ t. firstOf b l t hs (parentsOf (placed .tree)) ≡ 0 → ⊥) (instancesOf (owner b l) hs)
   required-present =
-      subst (λ (xs : List ℕ). Each (Shown xs) (instancesOf (owner b l) xs)) (placed .same)
+      subst (λ (xs : List ℕ). All (Shown xs) (instancesOf (owner b l) xs)) (placed .same)
       (each-instance b s (placed .tree) (placed .runs) (Shown (homesOf (placed .tree))) (owner b l) (group-owner b s l from to)
       (λ t x i. shown t x i (isTrigger b l) refl))

@@ -8,6 +8,7 @@ use mathlib.Core.List.{List, [], _∷_, _++_, map}
 use mathlib.Core.Bool.{Bool, true, false, not, cond, _&&_, _||_, true≢false, false≢true}
 use lib.Dec.{eqb}
 use borrow.Author.Tests.{eq-eqb, ne-eqb, eqb-true, eqb-false}
+use Rattle.reading.specs.meaning.Service.{All}
 use Rattle.guide.specs.meaning.Guide.{Guide, guideOf}
 use Rattle.book.specs.meaning.GoodBook.{GoodBook}
 use Rattle.guide.specs.meaning.View.{Row, rowOf}
@@ -15,17 +16,17 @@ use Rattle.book_laws.proofs.ViewedRows.{required-row}
 use Rattle.guide.specs.meaning.Plan.{planOf, planIn, opening}
 use Rattle.placing.specs.meaning.Placement.{Placed, parentsOf}
 use Rattle.guide.specs.meaning.Tree.{owner}
-use Rattle.placing.specs.method.ClosedTree.{closedParents}
+use Rattle.placing_laws.specs.laws.ClosedTree.{closedParents}
 use Rattle.placing.specs.method.Tree.{notedParents}
 use Rattle.placing_laws.proofs.Structured.{structured}
 use Rattle.placing_laws.proofs.Noted.{tree}
 use Rattle.placing_laws.proofs.Closed.{tree-closed}
 use Rattle.rules.specs.meaning.Conditions.{Assignment}
-use Rattle.rules.specs.method.FirstFound.{some, every, firstUnknown, reported, foundAmong, firstRow}
+use Rattle.rules_laws.specs.laws.FirstFound.{some, every, reported, foundAmong, firstRow}
 use Rattle.rules.specs.meaning.Rows.{conditionsOf, isBroken, expression}
 use Rattle.rules.specs.meaning.Instances.{instancesOf, shownBy, firstOf, isPresent, placeIn}
 use Rattle.rules.specs.meaning.Entries.{Entry, entryFor, entriesIn, entriesFrom}
-use Rattle.rules.specs.method.Scanning.{Instance, instanceOf, instancesIn, weighed, breachOf, watchOf, isNever, isIdle, reportOf, reportIn, firstFound, scannedIn, scannedLine, scannedFrom, scannedRow}
+use Rattle.rules.specs.method.Scanning.{Instance, instanceOf, instancesIn, weighed, breachOf, watchOf, isNever, isIdle, reportOf, reportIn, firstFound, scannedIn, scannedLine, scannedFrom, scannedRow, firstUnknown}
 use Rattle.rules.specs.declared.breach.Breach.{Breach}
 use Rattle.rules.specs.declared.breach.Breach.the-variants.{Never, Always, Sometimes}
 use Rattle.rules.specs.declared.watch.Watch.{Watch}
@@ -34,7 +35,6 @@ use Rattle.rules.specs.declared.finding.Finding.the-variants.{Kept, Broken, Uns
 use Rattle.rules_laws.proofs.Exact.{Rises, breaks, lowly, highly, some-breaks, every-breaks, row-rises}
 use Rattle.rules_laws.proofs.Lines.{placed-homed}
 use Rattle.rules_laws.proofs.InstancesFound.{line-instances}
-use Rattle.rules_laws.proofs.InTree.{Each}
 use Rattle.rules_laws.proofs.Required.{required-present}
 use Rattle.rules_laws.proofs.Fillings.{some-is}
 use Rattle.rules.proofs.Passing.{rows-of-some}
@@ -99,7 +99,7 @@ must-present : (mode : ℕ) (present value : Bool) → mode ≡ 1 → present �
 must-present mode present value m h = rw (m, h)
 
 required-found : (g : Guide) (p : ℕ) (cs : List ℕ) (l : ℕ) (hs ps ts : List ℕ) (es : List Entry) → rowOf g p l .mode ≡ 1
-    → Each (λ t. firstOf (planOf g) l t hs ps ≡ 0 → ⊥) ts → foundAmong cs (entriesIn g p l hs ps ts ++ es) ≡ foundAmong cs es
+    → All (λ t. firstOf (planOf g) l t hs ps ≡ 0 → ⊥) ts → foundAmong cs (entriesIn g p l hs ps ts ++ es) ≡ foundAmong cs es
 unfolding foundAmong entriesIn
 required-found g p cs l hs ps [] es m h = refl
 required-found g p cs l hs ps (t ∷ ts) es m h =

@@ -10,15 +10,17 @@ use mathlib.Core.List.{List, [], _∷_}
 use mathlib.Core.Bool.{Bool, true, false, not, cond}
 use lib.ListN.{getD}
 use borrow.Author.Tests.{ne-eqb, not-true, not-false}
+use Rattle.reading.specs.meaning.Service.{All}
 use Rattle.guide.specs.meaning.Guide.{Guide, guideOf}
 use Rattle.book.specs.meaning.GoodBook.{GoodBook}
 use Rattle.rules.specs.meaning.Conditions.{Assignment, isUnknown, told, Filling, Fills, Learns}
-use Rattle.rules.specs.method.FirstFound.{some, every, firstUnknown, foundUnder, reported, foundAmong, firstRow}
+use Rattle.rules.specs.method.Scanning.{firstUnknown}
+use Rattle.rules_laws.specs.laws.FirstFound.{some, every, foundUnder, reported, foundAmong, firstRow}
 use Rattle.rules.specs.meaning.Entries.{Entry, entriesOf}
 use Rattle.rules.specs.declared.finding.Finding.{Finding}
 use Rattle.rules.specs.declared.finding.Finding.the-variants.{Kept, Broken, Unsettled}
 use Rattle.rules_laws.proofs.Fillings.{Witness, some-is, some-not, some-known, filled-filling, filled-known, filling-list, fill-fills, fill-told, learns-fills}
-use Rattle.rules_laws.proofs.Keys.{All, Looks, looks, Apart, Keyed, row-key}
+use Rattle.rules_laws.proofs.Keys.{Looks, looks, Apart, Keyed, row-key}
 
 abbrev pub IsUnsettled : Finding → Type 0
 IsUnsettled Kept = ⊥

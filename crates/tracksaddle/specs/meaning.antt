@@ -1,2 +1,2 @@
--- What the C door writes into lent tables.
+-- What the C door hands over.
 pub mod Door

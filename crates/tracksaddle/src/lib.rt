@@ -1,27 +1,15 @@
 // The C door: what c/tracksaddle.h declares, and nothing else. Numbers and slices pass; the work is done below.
 ghost use mathlib.Core.Path.{_≡_};
-ghost use Rattle.tracksaddle.specs.meaning.Door.{asManyAsFit, partNumbers};
+ghost use Rattle.slices.specs.meaning.Lent.{asManyAsFit};
+ghost use Rattle.tracksaddle.specs.meaning.Door.{partNumbers};
 ghost use Rattle.reading.specs.method.Machine.{componentSpan};
 ghost use Rattle.reading.specs.meaning.Service.{standard};
 ghost use Rattle.book.specs.meaning.GoodBook.{Judged};
 ghost use Rattle.framing.specs.meaning.Record.{numbersOf};
 ghost use Rattle.judging.specs.method.Table.{judged, tablesAfter};
 ghost use Rattle.judging.specs.meaning.Tables.{tables, roomOf};
-use framing::Verdict;
 use reading::lookup;
 use reading::service::Service;
-
-// The six numbers in 01's order.
-fn put_verdict(numbers: &mut [u32], verdict: Verdict)
-    ensures { λ _. ⌜ now (numbers .exit) ≡ asManyAsFit (numbersOf verdict) (now (numbers .entry)) ⌝ }
-{
-    slices::put(numbers, 0, verdict.number);
-    slices::put(numbers, 1, verdict.place.at);
-    slices::put(numbers, 2, verdict.place.line);
-    slices::put(numbers, 3, verdict.place.element);
-    slices::put(numbers, 4, verdict.place.component);
-    slices::put(numbers, 5, verdict.condition);
-}
 
 // The verdict on the message under the book, with what is known of the conditions: its number is returned, its six numbers
 // go into the lent record.
@@ -42,7 +30,7 @@ pub extern "C" fn tracksaddle_judge(
 {
     let service = Service::standard();
     let verdict = judging::judge(service, message, book, conditions, starts, homes, parents);
-    put_verdict(numbers, verdict);
+    framing::put_verdict(numbers, verdict);
     verdict.number
 }
 

@@ -19,12 +19,11 @@
 //!   programs are called with, lend, measure, leave behind and print
 //!
 //! `cargo test` tests the judge itself and needs no archive. The programs link
-//! `libtracksaddle.a`, `libreading_probe.a` and `libplacing_probe.a` from the
-//! folder that `TRACKSADDLE_ARCHIVES` names by its absolute path. In the
-//! repository's root:
+//! `libtracksaddle.a` and `libprobe.a` from the folder that
+//! `TRACKSADDLE_ARCHIVES` names by its absolute path. In the repository's root:
 //!
 //! ```text
-//! tools/host_archives target/host tracksaddle reading_probe placing_probe
+//! tools/host_archives target/host tracksaddle probe
 //! cd tests/independent
 //! export TRACKSADDLE_ARCHIVES=$PWD/../../target/host
 //! cargo run --release --bin compare_reading [SEED]

@@ -2,7 +2,8 @@
 use Prim.Native.Nat.{ℕ, _+_, _*_, _-_, _≤_, _<_, _^_}
 use mathlib.Core.Path.{_≡_}
 use mathlib.Core.List.{List}
-use Rattle.guide.specs.meaning.Guide.{Guide}
+use mathlib.Core.Bool.{Bool, _&&_}
+use Rattle.guide.specs.meaning.Guide.{Guide, guideOf}
 use Rattle.book.specs.meaning.Rule.{Rule, _and_, every}
 use Rattle.book.specs.method.Run.{all, run}
 use Rattle.book.specs.meaning.GoodBook.{editionRule, lengthRule, blocksRule, countsRule, kindRule, depthRule, tagRule, requiredRule, selectorRule, codeRangeRule, maximumRule, fieldRangeRule, groupRule, codeRule, fieldRule, identifierFormRule, identifierRises, modeRule, rowEndRule, requiredRowRule, risingFieldsRule, triggerRule, fallRule, onlyFramesRule, carrierGroupRule, fieldRises, deeperRule, framesRule, carrierRule, pairRule}
@@ -71,6 +72,10 @@ homesRule g = every 1 (g .lines) (homeRule g)
 
 unfoldable pub framedRule : Guide → Rule
 framedRule g = framesRule g and carrierRule g and structuresRule g and homesRule g
+
+-- a good book, tested
+abbrev pub isGood : List ℕ → Bool
+isGood bs = run (headerRule bs) && (run (recordsRule (guideOf bs)) && run (framedRule (guideOf bs)))
 
 -- the lines before line l have another tag than line m, so that homeRule is left to be asked from l on
 pub record PassedTo (g : Guide) (m l : ℕ) : Type 0 where

@@ -12,7 +12,7 @@ use Rattle.framing.specs.meaning.Record.{answer, numbersOf}
 use Rattle.framing.specs.declared.verdict.Verdict.{Verdict}
 use Rattle.rules.specs.meaning.Conditions.{told, Fills, Learns}
 use Rattle.judging.specs.meaning.Tables.{Tables, roomOf}
-use Rattle.tracksaddle.specs.meaning.Door.{asManyAsFit}
+use Rattle.slices.specs.meaning.Lent.{asManyAsFit}
 use Rattle.tracksaddle.proofs.tracksaddle_judge.Reads as judge
 use Rattle.demands.specs.meaning.Table.{FitConditions, TableSays}
 use Rattle.demands.specs.meaning.Demands.{HoldTree, Accepted, WithinLimits}
@@ -101,7 +101,9 @@ pub record Kept (h : Handed) (l : Left) : Type 1 where
   pub unsure : Shown h → (l .number ≡ 15)
       ↔ ((fs : List ℕ) × (gs : List ℕ) × Fills (h .conditions) fs × Fills (h .conditions) gs
       × ((j k : Left) → Promised (knowing fs h) j → Promised (knowing gs h) k → (v : Verdict) → Answers (knowing fs h) j v → Answers (knowing gs h) k v → ⊥))
-  -- and whatever room the record has: number 15 exactly when there are two fillings of which the table says different verdicts
+  -- and whatever room the record has: another verdict is the table's exactly when the table says it of every filling, and number 15 is
+  -- returned exactly when there are two fillings of which the table says different ones
+  pub fillings-agree : (v : Verdict) → (v .number ≡ 15 → ⊥) → Says h v ↔ ((fs : List ℕ) → Fills (h .conditions) fs → Says (knowing fs h) v)
   pub fillings-differ : (l .number ≡ 15)
       ↔ ((fs : List ℕ) × (gs : List ℕ) × Fills (h .conditions) fs × Fills (h .conditions) gs
       × ((v : Verdict) → Says (knowing fs h) v → Says (knowing gs h) v → ⊥))

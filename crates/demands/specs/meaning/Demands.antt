@@ -9,7 +9,7 @@ use lib.ListN.{length, drop}
 use Rattle.guide.specs.meaning.Guide.{guideOf}
 use Rattle.book.specs.meaning.GoodBook.{GoodBook}
 use Rattle.guide.specs.meaning.View.{lineOf}
-use Rattle.reading.specs.meaning.Limits.{mostBytes, mostSegments}
+use Rattle.framing.specs.meaning.Limits.{mostBytes, mostSegments}
 use Rattle.reading.specs.meaning.Service.{All}
 use Rattle.reading.specs.meaning.Message.{Message}
 use Rattle.reading.specs.meaning.WellFormed.{WellFormed}

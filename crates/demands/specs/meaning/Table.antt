@@ -4,7 +4,7 @@
 use Prim.Native.Nat.{ℕ, suc, _≤_, _<_}
 use mathlib.Core.Path.{_≡_}
 use mathlib.Core.Logic.{_⊎_}
-use mathlib.Core.List.{List, [], _∷_, map}
+use mathlib.Core.List.{List, [], _∷_}
 use mathlib.Core.Bool.{true}
 use lib.ListN.{length}
 use Rattle.guide.specs.meaning.Guide.{Guide, guideOf}
@@ -15,13 +15,13 @@ use Rattle.reading.specs.meaning.Message.{Segment, Message}
 use Rattle.reading.specs.meaning.Component.{valueAt}
 use Rattle.reading.specs.declared.service.Service.{Service}
 use Rattle.guide.specs.meaning.Plan.{planIn}
-use Rattle.placing.specs.meaning.Fitting.{homeOf}
+use Rattle.placing.specs.meaning.Fitting.{homesIn}
 use Rattle.placing.specs.meaning.Placement.{Placed, Stops, parentsOf}
 use Rattle.placing.specs.meaning.Answers.{HaveHomes, FirstWithout}
 use Rattle.fields.specs.meaning.Fields.{In, LeastFault}
 use Rattle.fields.specs.declared.fault.Fault.the-variants.{At, Clean}
-use Rattle.rules.specs.meaning.Conditions.{Assignment, isUnknown, Filling}
-use Rattle.rules.specs.meaning.Entries.{Entry, entriesOf}
+use Rattle.rules.specs.meaning.Conditions.{isUnknown}
+use Rattle.rules.specs.meaning.Entries.{Entry, entriesOf, SomeBreaks, EveryBreaks}
 use Rattle.rules.specs.meaning.Identifiers.{identifierValue}
 use Rattle.framing.specs.meaning.Record.{place, verdict, answer}
 use Rattle.framing.specs.declared.message.Room.{Room}
@@ -70,16 +70,7 @@ pub record Carries (g : Guide) (m : Message) (hs : List ℕ) (k : ℕ) (value : 
 abbrev pub InBook : Guide → List ℕ → ℕ → Type 0
 InBook g value p = (p < g .identifiers) × (value ≡ identifierValue g p)
 
--- ---- the rows: numbers 14 and 15
-
--- "broken in some fillings", "broken in every filling"
-pub record SomeBreaks (cs : List ℕ) (e : Entry) : Type 0 where
-  pub filling : Assignment
-  pub fills : Filling cs filling
-  pub breaks : e .isBrokenBy filling ≡ true
-
-abbrev pub EveryBreaks : List ℕ → Entry → Type 0
-EveryBreaks cs e = (a : Assignment) → Filling cs a → e .isBrokenBy a ≡ true
+-- ---- the rows: numbers 14 and 15. Which fillings break one stands in rules/specs/meaning/Entries.antt.
 
 -- 01: "lowest unknown condition of the row"
 pub record LowestUnknown (cs ks : List ℕ) (k : ℕ) : Type 0 where
@@ -124,4 +115,4 @@ module _ (s : Service) (bs book cs : List ℕ) (room : Room) where
   abbrev pub TableSays : Verdict → Type 0
   TableSays v =
       Unless (GoodBook book) (v ≡ answer 1 0)
-      (Unless (FitConditions guide cs) (v ≡ answer 2 0) (BytesSay s bs room (λ m. HomesSay m (map (homeOf guide) m)) v))
+      (Unless (FitConditions guide cs) (v ≡ answer 2 0) (BytesSay s bs room (λ m. HomesSay m (homesIn book m)) v))

@@ -1,11 +1,10 @@
 -- The test of a segment against its line's fields as it is done: one pass over its components, as they are written, and over the
 -- fields. Total for any bytes, any book and any service characters; the laws of fields_laws say that it finds the least fault.
-use Prim.Native.Nat.{ℕ, suc, _+_, _≤_, _<_}
-use mathlib.Core.Path.{_≡_}
+use Prim.Native.Nat.{ℕ, suc, _+_, _≤_}
 use mathlib.Core.List.{List, [], _∷_}
 use mathlib.Core.Bool.{Bool, false, cond, not, _&&_, _||_}
 use lib.Dec.{eqb, leb}
-use lib.ListN.{length, getD, drop}
+use lib.ListN.{length, drop}
 use Rattle.guide.specs.meaning.Guide.{Guide}
 use Rattle.guide.specs.meaning.View.{numbersFrom}
 use Rattle.guide.specs.meaning.Words.{numberForm, emptyPresence, mustPresence, withElementPresence}
@@ -131,21 +130,3 @@ firstFault s g bs k (at ∷ starts) (line ∷ homes) = thenFirst k line (faultAt
 abbrev pub FirstInReach : ℕ → FirstFault → Type 0
 FirstInReach n (first.At k line e c) = Near n e × Near n c
 FirstInReach n first.Clean = Unit {0}
-
--- what each answer says, k segments standing before these: each segment is tested against its own line, and none before the first
--- place has a fault
-abbrev pub CleanAt : Service → Guide → List ℕ → List ℕ → List ℕ → ℕ → Type 0
-CleanAt s g bs starts homes j = faultAt s g bs (getD starts j 0) (getD homes j 0) ≡ Clean
-
-pub record FirstAt (s : Service) (g : Guide) (bs : List ℕ) (k : ℕ) (starts homes : List ℕ) (place line e c : ℕ) : Type 0 where
-  pub before : ℕ
-  pub counted : place ≡ suc (k + before)
-  pub started : before < length starts
-  pub placed : before < length homes
-  pub home : getD homes before 0 ≡ line
-  pub there : faultAt s g bs (getD starts before 0) (getD homes before 0) ≡ At e c
-  pub none-before : (j : ℕ) → j < before → CleanAt s g bs starts homes j
-
-abbrev pub FirstMeans : Service → Guide → List ℕ → ℕ → List ℕ → List ℕ → FirstFault → Type 0
-FirstMeans s g bs k starts homes (first.At place line e c) = FirstAt s g bs k starts homes place line e c
-FirstMeans s g bs k starts homes first.Clean = (j : ℕ) → j < length starts → j < length homes → CleanAt s g bs starts homes j

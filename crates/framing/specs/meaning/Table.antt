@@ -5,7 +5,7 @@ use mathlib.Core.Path.{_≡_}
 use mathlib.Core.Logic.{_⊎_}
 use mathlib.Core.List.{List, [], _∷_}
 use lib.ListN.{length}
-use Rattle.reading.specs.meaning.Limits.{mostBytes, mostSegments}
+use Rattle.framing.specs.meaning.Limits.{mostBytes, mostSegments}
 use Rattle.reading.specs.meaning.WellFormed.{WellFormed, FirstBad}
 use Rattle.reading.specs.declared.service.Service.{Service}
 use Rattle.framing.specs.meaning.Record.{answer}

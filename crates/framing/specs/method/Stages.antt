@@ -4,14 +4,14 @@ use mathlib.Core.List.{List, [], _∷_}
 use mathlib.Core.Bool.{Bool, not, cond, _&&_, _||_}
 use lib.Dec.{eqb, leb, ltb}
 use lib.ListN.{length}
-use Rattle.reading.specs.meaning.Limits.{mostBytes, mostSegments}
+use Rattle.framing.specs.meaning.Limits.{mostBytes, mostSegments}
 use Rattle.reading.specs.method.Machine.{scanned, componentSpan}
 use Rattle.reading.specs.meaning.Component.{sameComponent}
 use Rattle.reading.specs.method.Part.{bytesIn}
 use Rattle.reading.specs.meaning.Tag.{tagNumber, UNH, UNT}
 use Rattle.reading.specs.method.Tag.{tagAt}
 use Rattle.reading.specs.declared.service.Service.{Service}
-use Rattle.reading.specs.meaning.WellFormed.{Outcome, Segments, BadAt}
+use Rattle.reading.specs.method.Outcome.{Outcome, Segments, BadAt}
 use Rattle.reading.specs.method.Starts.{startsFrom}
 use Rattle.framing.specs.meaning.Record.{answer}
 use Rattle.framing.specs.method.Decimal.{isDecimal}

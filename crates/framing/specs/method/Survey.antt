@@ -5,8 +5,8 @@ use mathlib.Core.Bool.{not, cond}
 use lib.Dec.{eqb}
 use Rattle.reading.specs.method.Machine.{scanned}
 use Rattle.reading.specs.declared.service.Service.{Service}
-use Rattle.reading.specs.meaning.WellFormed.{Outcome}
-use Rattle.reading.specs.meaning.WellFormed as outcome
+use Rattle.reading.specs.method.Outcome.{Outcome}
+use Rattle.reading.specs.method.Outcome as outcome
 use Rattle.framing.specs.method.Stages.{isMisplaced, frameOf}
 use Rattle.framing.specs.declared.survey.Frame.{Frame}
 use Rattle.framing.specs.declared.survey.Frame.the-variants.{Misplaced, Closes}

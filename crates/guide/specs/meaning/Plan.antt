@@ -1,9 +1,9 @@
 -- The lines of a guide book as a message runs through them: groups, their triggers and further lines. Lines count from 1; line 0 stands
 -- for the message itself.
-use Prim.Native.Nat.{ℕ, zero, suc, _≤_, _<_, pred}
+use Prim.Native.Nat.{ℕ, zero, suc, _≤_, _<_}
 use mathlib.Core.Path.{_≡_}
 use mathlib.Core.List.{List}
-use mathlib.Core.Bool.{Bool, false, cond}
+use mathlib.Core.Bool.{Bool, false}
 use lib.Dec.{eqb}
 use Rattle.guide.specs.meaning.Guide.{Guide, guideOf}
 use Rattle.guide.specs.meaning.Words.{groupKind}
@@ -50,14 +50,8 @@ pub record Of (b : Plan) (p l : ℕ) : Type 0 where
   pub deeper : deep b l ≡ suc (deep b p)
   pub inside : (x : ℕ) → p < x → x < l → deep b p < deep b x
 
--- ---- the line that a home opens or repeats
-
 -- 01: "After a group of depth d comes a segment line of depth d+1, its trigger"
 abbrev pub isTrigger : Plan → ℕ → Bool
 isTrigger b zero = false
 isTrigger b (suc zero) = false
 isTrigger b (suc (suc g)) = b .group (suc g)
-
--- a trigger opens its group
-unfoldable pub target : Plan → ℕ → ℕ
-target b l = cond (isTrigger b l) (pred l) l

@@ -64,23 +64,22 @@ lineOf g l =
       fields = map (fieldOf g) (numbersFrom (g .firstField l) (g .fieldCount l));
     }
 
--- the row of a Prüfidentifikator, counted from 0, and a line, counted from 1: "lines running fastest"
-abbrev pub rowNumber : Guide → ℕ → ℕ → ℕ
-rowNumber g p l = p * g .lines + (l - 1)
-
 pub record Row : Type 0 where
   pub mode : ℕ
   pub joint : ℕ
   -- as they stand: a number, plus 128 for "not"; 0 where unused
   pub conditions : List ℕ
 
+-- the row with this number in the book, counted from 0
+abbrev pub rowNumbered : Guide → ℕ → Row
+rowNumbered g r = record { mode = g .mode r; joint = g .joint r; conditions = g .condition r 0 ∷ g .condition r 1 ∷ g .condition r 2 ∷ [] }
+
+-- the row of a Prüfidentifikator, counted from 0, and a line, counted from 1: "lines running fastest"
+abbrev pub rowNumber : Guide → ℕ → ℕ → ℕ
+rowNumber g p l = p * g .lines + (l - 1)
+
 abbrev pub rowOf : Guide → ℕ → ℕ → Row
-rowOf g p l =
-    record {
-      mode = g .mode (rowNumber g p l);
-      joint = g .joint (rowNumber g p l);
-      conditions = g .condition (rowNumber g p l) 0 ∷ g .condition (rowNumber g p l) 1 ∷ g .condition (rowNumber g p l) 2 ∷ [];
-    }
+rowOf g p l = rowNumbered g (rowNumber g p l)
 
 -- the conditions of a row that are in use: "unused bytes zero and last"
 abbrev pub inUse : List ℕ → List ℕ

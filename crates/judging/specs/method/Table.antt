@@ -1,13 +1,12 @@
 -- The verdict by 01's table, top to bottom, and the tables that it leaves: as it is worked out, for any bytes and any service
 -- characters. What each number means is said in demands/specs/meaning/Table.antt, and the demands say that it is this.
-use Prim.Native.Nat.{ℕ, suc, _-_}
-use mathlib.Core.List.{List, [], _∷_}
-use mathlib.Core.Bool.{Bool, true, cond, _&&_}
-use lib.Dec.{eqb, leb}
+use Prim.Native.Nat.{ℕ, _-_}
+use mathlib.Core.List.{List}
+use mathlib.Core.Bool.{cond, _&&_}
+use lib.Dec.{eqb}
 use lib.ListN.{length, getD}
 use Rattle.guide.specs.meaning.Guide.{Guide, guideOf}
-use Rattle.book.specs.method.Run.{run}
-use Rattle.book.specs.method.Each.{headerRule, recordsRule, framedRule}
+use Rattle.book.specs.method.Each.{isGood}
 use Rattle.reading.specs.method.Starts.{startsFrom}
 use Rattle.reading.specs.declared.service.Service.{Service}
 use Rattle.framing.specs.meaning.Record.{answer}
@@ -16,29 +15,24 @@ use Rattle.framing.specs.declared.message.Room.{Room}
 use Rattle.framing.specs.declared.verdict.Verdict.{Verdict}
 use Rattle.guide.specs.meaning.Plan.{planIn}
 use Rattle.placing.specs.method.Passes.{homesFrom, tested, startsTable, homesTable, parentsTable}
+use Rattle.placing.specs.method.Tables.{placeFrom}
 use Rattle.fields.specs.method.Testing.{firstFault}
+use Rattle.rules.specs.method.Conditions.{areTruthValues}
 use Rattle.rules.specs.method.Identifiers.{identified}
 use Rattle.rules.specs.method.Scanning.{scannedRow}
 use Rattle.rules.specs.declared.identifier.Identified.{Identified}
-use Rattle.judging.specs.meaning.Answers.{placingVerdict, fieldsVerdict, identifiedVerdict, rowsVerdict}
+use Rattle.judging.specs.method.Answers.{placingVerdict, fieldsVerdict, identifiedVerdict, rowsVerdict}
 use Rattle.judging.specs.meaning.Tables.{isRefusal, Tables, roomOf}
 
 -- ---- numbers 1 and 2
 
--- 01, number 1: "book malformed". The rules of a good book, run as tests
-abbrev pub isGood : List ℕ → Bool
-isGood book = run (headerRule book) && (run (recordsRule (guideOf book)) && run (framedRule (guideOf book)))
-
+-- 01, number 1: "book malformed"
 abbrev pub bookStage : List ℕ → Verdict
 bookStage book = cond (isGood book) (answer 0 0) (answer 1 0)
 
--- 01, number 2: "conditions not as many as the book says, or a byte above 2"; no byte is
-unfoldable pub areKnown : List ℕ → Bool
-areKnown [] = true
-areKnown (c ∷ cs) = leb c 2 && areKnown cs
-
+-- 01, number 2: "conditions not as many as the book says, or a byte above 2"
 abbrev pub conditionsStage : Guide → List ℕ → Verdict
-conditionsStage g cs = cond (eqb (length cs) (g .conditions) && areKnown cs) (answer 0 0) (answer 2 0)
+conditionsStage g cs = cond (eqb (length cs) (g .conditions) && areTruthValues cs) (answer 0 0) (answer 2 0)
 
 -- ---- numbers 10 and 11
 
@@ -53,11 +47,6 @@ refusal s bs book cs room =
     (orElse (conditionsStage (guideOf book) cs) (orElse (messageStage s bs room) (placingStage s bs book (messageStage s bs room .place .at))))
 
 -- ---- numbers 12 to 15, of a message that is placed: n segments with their starts and homes
-
--- the first segment of a line, where k stand before; 0 if there is none
-unfoldable pub placeFrom : ℕ → ℕ → List ℕ → ℕ
-placeFrom l k [] = 0
-placeFrom l k (h ∷ hs) = cond (eqb h l) (suc k) (placeFrom l (suc k) hs)
 
 -- where the Prüfidentifikator's segment is
 abbrev pub carrierPlace : Guide → List ℕ → ℕ

@@ -1,12 +1,12 @@
 -- A segment's home. 01: "A segment's home is the segment line of its tag whose codes, if it has a selector, include the value
 -- there."
 use Prim.Native.Nat.{ℕ, zero, suc}
-use mathlib.Core.List.{List, [], _∷_}
+use mathlib.Core.List.{List, [], _∷_, map}
 use mathlib.Core.Bool.{Bool, false, cond, not, _&&_, _||_}
 use lib.Dec.{eqb}
-use Rattle.guide.specs.meaning.Guide.{Guide}
+use Rattle.guide.specs.meaning.Guide.{Guide, guideOf}
 use Rattle.guide.specs.meaning.View.{Line, lineOf}
-use Rattle.reading.specs.meaning.Message.{Component, Tag, Segment}
+use Rattle.reading.specs.meaning.Message.{Component, Tag, Segment, Message}
 use Rattle.reading.specs.meaning.Component.{valueAt, sameComponent}
 
 unfoldable pub isAmong : Component → List (List ℕ) → Bool
@@ -30,3 +30,7 @@ least test line (suc count) = cond (test line) line (least test (suc line) count
 
 abbrev pub homeOf : Guide → Segment → ℕ
 homeOf b g = least (λ l. fits (lineOf b l) g) 1 (b .lines)
+
+-- the homes of a message in a book, segment by segment
+abbrev pub homesIn : List ℕ → Message → List ℕ
+homesIn book m = map (homeOf (guideOf book)) m

@@ -83,9 +83,3 @@ parents up k (instance ks g inner) rest = parents up k ks (up ∷ parents (suc (
 
 abbrev pub parentsOf : Contents → List ℕ
 parentsOf ks = parents 0 0 ks []
-
--- ---- how often a line is a home
-
-unfoldable pub occurrences : ℕ → List ℕ → ℕ
-occurrences x [] = 0
-occurrences x (h ∷ hs) = cond (eqb h x) 1 0 + occurrences x hs

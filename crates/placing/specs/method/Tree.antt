@@ -3,7 +3,8 @@ use Prim.Native.Nat.{ℕ, suc}
 use mathlib.Core.List.{List, [], _∷_}
 use mathlib.Core.Bool.{cond}
 use lib.ListN.{getD, set}
-use Rattle.guide.specs.meaning.Plan.{Plan, isTrigger, target}
+use Rattle.guide.specs.meaning.Plan.{Plan, isTrigger}
+use Rattle.guide.specs.method.Targets.{target}
 
 -- ---- home by home: for each depth the number of the trigger whose instance was opened there last, 0 for the message
 

@@ -7,7 +7,8 @@ use mathlib.Core.List.{List, [], _∷_, _++_}
 use mathlib.Core.Bool.{Bool, true, false, cond, not, _&&_}
 use lib.Dec.{eqb, ltb, leb}
 use lib.ListN.{length, getD, set, take, drop}
-use Rattle.guide.specs.meaning.Plan.{Plan, isTrigger, target}
+use Rattle.guide.specs.meaning.Plan.{Plan, isTrigger}
+use Rattle.guide.specs.method.Targets.{target}
 use Rattle.placing.specs.declared.walk.Level.{Level}
 use Rattle.placing.specs.declared.walk.Walk.{Walk}
 use Rattle.placing.specs.declared.walk.Move.{Move}
@@ -90,12 +91,6 @@ walked b vs (l ∷ ls) = walked b (advanced b vs l) ls
 abbrev pub isAlive : List Level → Bool
 isAlive [] = false
 isAlive (v ∷ vs) = true
-
--- the walk has come to the last line
-abbrev pub isAtEnd : Plan → List Level → Bool
-isAtEnd b [] = false
-isAtEnd b (v ∷ []) = eqb (v .line) (b .lines)
-isAtEnd b (v ∷ w ∷ vs) = false
 
 -- ---- the state that the code keeps
 

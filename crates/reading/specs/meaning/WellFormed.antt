@@ -23,20 +23,6 @@ pub record FirstBad (s : Service) (bs : List ℕ) (k : ℕ) : Type 0 where
   pub before : (j : ℕ) → j < k → Begins s (take (suc j) bs)
   pub there : k < length bs → Begins s (take (suc k) bs) → ⊥
 
--- what any bytes come to: a well-formed message of so many segments, or number 4's place
-pub data Outcome : Type 0 where
-  Segments : ℕ → Outcome
-  BadAt : ℕ → Outcome
-
--- and what each says
-abbrev pub Means : Service → List ℕ → Outcome → Type 0
-Means s bs (Segments n) = (w : WellFormed s bs) × (length (w .message) ≡ n)
-Means s bs (BadAt k) = FirstBad s bs k
-
--- where the segment behind the first k starts: behind what is written of those
-abbrev pub startAfter : Service → Message → ℕ → ℕ
-startAfter s m k = length (render s (take k m))
-
 -- a well-formed segment starts at an offset where it is written from there on, whatever rest stands behind it
 pub record SegmentAt (s : Service) (bs : List ℕ) (at : ℕ) (g : Segment) : Type 0 where
   pub valid : ValidSegment g

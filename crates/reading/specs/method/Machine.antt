@@ -13,7 +13,7 @@ use Rattle.reading.specs.declared.bytes.Kind.{Kind}
 use Rattle.reading.specs.declared.bytes.Kind.the-variants.{Component, Element, Terminator, Release, Plain, Other}
 use Rattle.reading.specs.declared.machine.State.{State}
 use Rattle.reading.specs.declared.machine.State.the-variants.{Start, Second, Third, Tagged, Inside, Released, Dead}
-use Rattle.reading.specs.meaning.WellFormed.{Outcome, Segments, BadAt}
+use Rattle.reading.specs.method.Outcome.{Outcome, Segments, BadAt}
 use Rattle.reading.specs.declared.cursor.End.{End}
 use Rattle.reading.specs.declared.cursor.End.the-variants.{At, Nowhere}
 use Rattle.reading.specs.declared.cursor.Found.{Found}

@@ -1,12 +1,13 @@
--- The rows of a message, in the order in which the first one at fault is told. 01, numbers 14 and 15.
+-- The rows of a message, in the order in which the first one at fault is told, and which fillings break one. 01, numbers 14 and 15.
 use Prim.Native.Nat.{ℕ, zero, suc}
+use mathlib.Core.Path.{_≡_}
 use mathlib.Core.List.{List, [], _∷_, _++_}
-use mathlib.Core.Bool.{Bool}
+use mathlib.Core.Bool.{Bool, true}
 use Rattle.guide.specs.meaning.Guide.{Guide}
 use Rattle.guide.specs.meaning.View.{rowOf, Row}
 use Rattle.guide.specs.meaning.Plan.{planOf}
 use Rattle.guide.specs.meaning.Tree.{owner}
-use Rattle.rules.specs.meaning.Conditions.{Assignment}
+use Rattle.rules.specs.meaning.Conditions.{Assignment, Filling}
 use Rattle.rules.specs.meaning.Rows.{expression, conditionsOf, isBroken}
 use Rattle.rules.specs.meaning.Instances.{instancesOf, firstOf, isPresent, placeIn}
 
@@ -38,3 +39,14 @@ entriesFrom g p hs ps l (suc count) = entriesIn g p l hs ps (instancesOf (owner 
 
 abbrev pub entriesOf : Guide → ℕ → List ℕ → List ℕ → List Entry
 entriesOf g p hs ps = entriesFrom g p hs ps 1 (g .lines)
+
+-- ---- over the fillings of the unknown conditions
+
+-- "broken in some fillings", "broken in every filling"
+pub record SomeBreaks (cs : List ℕ) (e : Entry) : Type 0 where
+  pub filling : Assignment
+  pub fills : Filling cs filling
+  pub breaks : e .isBrokenBy filling ≡ true
+
+abbrev pub EveryBreaks : List ℕ → Entry → Type 0
+EveryBreaks cs e = (a : Assignment) → Filling cs a → e .isBrokenBy a ≡ true

@@ -1,6 +1,6 @@
 -- The first row as the code finds it, for any book, conditions and homes: line by line, in one pass over the homes, with what a row
 -- comes to worked out once for a line. The law scanned (rules_laws/proofs/Scanned.antt) says that in a good book, for the homes of a placed
--- message, this is the first row of FirstRow.antt.
+-- message, this is the first row of rules_laws/specs/laws/FirstFound.antt.
 use Prim.Native.Nat.{ℕ, zero, suc}
 use mathlib.Core.List.{List, [], _∷_}
 use mathlib.Core.Bool.{Bool, true, false, not, cond, _&&_, _||_}
@@ -11,7 +11,6 @@ use Rattle.guide.specs.meaning.Words.{anyJoint}
 use Rattle.guide.specs.meaning.Plan.{planOf, opening}
 use Rattle.guide.specs.meaning.Tree.{owner}
 use Rattle.rules.specs.meaning.Conditions.{told, isUnknown}
-use Rattle.rules.specs.method.FirstFound.{firstUnknown}
 use Rattle.rules.specs.meaning.Rows.{conditionNumber, literal, conditionsOf, isBroken}
 use Rattle.rules.specs.meaning.Instances.{shownBy, placeIn}
 use Rattle.rules.specs.declared.breach.Breach.{Breach}
@@ -36,9 +35,10 @@ reading any cs guess (x ∷ xs) = joined any (guessed cs guess x) (reading any c
 abbrev pub readRow : List ℕ → Bool → Row → Bool
 readRow cs guess w = reading (eqb (w .joint) anyJoint) cs guess (inUse (w .conditions))
 
--- the row with this number in the book
-abbrev pub rowNumbered : Guide → ℕ → Row
-rowNumbered g r = record { mode = g .mode r; joint = g .joint r; conditions = g .condition r 0 ∷ g .condition r 1 ∷ g .condition r 2 ∷ [] }
+-- the first of these that is unknown, 0 if there is none
+unfoldable pub firstUnknown : List ℕ → List ℕ → ℕ
+firstUnknown cs [] = 0
+firstUnknown cs (k ∷ ks) = cond (isUnknown cs k) k (firstUnknown cs ks)
 
 -- broken in no filling, in every one, or in some only (law exact-outcome)
 abbrev pub weighed : Bool → Bool → ℕ → Breach

@@ -8,8 +8,9 @@ use Rattle.reading.specs.method.Machine.{componentSpan}
 use Rattle.reading.specs.declared.service.Service.{Service}
 use Rattle.reading.specs.declared.span.Span.{Span}
 use Rattle.reading.proofs.Seeking.{span-inside}
-use Rattle.tracksaddle.specs.meaning.Door.{asManyAsFit, partNumbers}
-use Rattle.tracksaddle.proofs.Fitting.{puts-fit}
+use Rattle.slices.specs.meaning.Lent.{asManyAsFit}
+use Rattle.slices.proofs.Fitting.{puts-fit}
+use Rattle.tracksaddle.specs.meaning.Door.{partNumbers}
 use Rattle.tracksaddle.proofs.tracksaddle_find_component.Statement.{statement}
 use Rattle.tracksaddle.proofs.tracksaddle_find_component.Tie as tie
 

@@ -5,7 +5,7 @@ use Rattle.framing.specs.meaning.Record.{numbersOf}
 use Rattle.framing.specs.declared.verdict.Verdict.{Verdict}
 use Rattle.judging.specs.meaning.Tables.{tables}
 use Rattle.judging.proofs.Decided.{standard-decided}
-use Rattle.tracksaddle.specs.meaning.Door.{asManyAsFit}
+use Rattle.slices.specs.meaning.Lent.{asManyAsFit}
 use Rattle.tracksaddle.proofs.tracksaddle_judge.Statement.{statement}
 use Rattle.tracksaddle.proofs.tracksaddle_judge.Tie as tie
 
@@ -39,7 +39,7 @@ returns c =
     let promised =
     standard-decided _ (standard-at .standard .ensures) (judge .result) (args .message .now) (args .book .now) (args .conditions .now)
     (tables (args .starts .now) (args .homes .now) (args .parents .now)) (tables _ _ _) (judge .ensures) in (
-      ap (λ (v : Verdict). v .number) (promised .0),
+      rw (promised .0),
       c .before .before .put-verdict .ensures ∙ ap (λ (v : Verdict). asManyAsFit (numbersOf v) (args .numbers .now)) (promised .0),
       promised .1,
     )

@@ -7,8 +7,9 @@ use lib.ListN.{length, getD, length-set}
 use borrow.Author.Count.{below-none}
 use borrow.Author.Needs.{needs}
 use Rattle.guide.specs.meaning.Guide.{guideOf}
+use Rattle.guide.proofs.WideNumbers.{code-low-small}
 use Rattle.book.specs.method.Tables.{wholeCode, FirstOf}
-use Rattle.book.proofs.Tables.{stored, first-agrees, low-small, numbered}
+use Rattle.book.proofs.Tables.{stored, first-agrees, numbered}
 use Rattle.book.proofs.numbering.numbers_of.Statement.{statement}
 use Rattle.book.proofs.numbering.numbers_of.Tie as tie
 
@@ -77,7 +78,7 @@ returns c =
     let codes = c .before .before .codes in
     let pre = c .before .before .before .before .pre in
     let shared-slice-known = c .before .before .before .shared-slice-known in
-    numbered _ _ (low-small _ (λ k. omega (arith, shared-slice-known .given k))) (λ d h. c .before .loop .inv .4 d (omega (arith, codes .ensures .0))) (pre)
+    numbered _ _ (code-low-small _ (λ k. omega (arith, shared-slice-known .given k))) (λ d h. c .before .loop .inv .4 d (omega (arith, codes .ensures .0))) (pre)
 
 pub numbers-of-spec : {M : Type 1} → statement M
 numbers-of-spec =

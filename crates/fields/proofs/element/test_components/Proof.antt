@@ -6,7 +6,8 @@ use lib.ListN.{length}
 use borrow.Author.Needs.{needs}
 use borrow.Author.Tests.{not-true, not-false}
 use Rattle.guide.specs.meaning.Guide.{guideOf}
-use Rattle.fields.proofs.Stepping.{Going, going-begin, going-broken, going-inside, going-on, going-closed}
+use Rattle.fields.proofs.Cutting.{reads-inside}
+use Rattle.fields.proofs.Stepping.{Going, going-begin, going-broken, going-on, going-closed}
 use Rattle.fields.proofs.element.test_components.Statement.{statement}
 use Rattle.fields.proofs.element.test_components.Tie as tie
 
@@ -68,24 +69,21 @@ returns-2 c =
 
 add-component : tie.Need-add-component Inv-loop μ-loop
 add-component c =
-    let args = c .before .before .before .before .before .before .before .before .before .before .before .args in
-    let loop = c .before .before .before .before .before .before .before .before .loop in
-    let n = going-inside (args .service) (guideOf (args .book .now)) (args .message .now) (args .from) (args .some) (args .element) (args .first) (args .last) (loop .component) (loop .start) (loop .field) (loop .inv) _ (c .before .before .before .before .before .before .before .read-component .ensures) _ (c .before .before .before .before .before .test-component .ensures) _ (c .before .before .before .next .given .1) (sym (c .before .opens-component .ensures) ∙ not-false _ (c .if1 .left)) in
-    let m = (loop .inv .counted) in
+    let read-component = c .before .before .before .before .before .before .before .read-component in
+    let n = reads-inside (read-component .ensures) (c .before .opens-component .ensures) (not-false _ (c .if1 .left)) in
+    let m = c .before .before .before .before .before .before .before .before .loop .inv .counted in
     omega (arith, n, m)
 
 add-start : tie.Need-add-start Inv-loop μ-loop
 add-start c =
-    let args = c .before .before .before .before .before .before .before .before .before .before .before .args in
-    let loop = c .before .before .before .before .before .before .before .before .loop in
-    let n = going-inside (args .service) (guideOf (args .book .now)) (args .message .now) (args .from) (args .some) (args .element) (args .first) (args .last) (loop .component) (loop .start) (loop .field) (loop .inv) _ (c .before .before .before .before .before .before .before .read-component .ensures) _ (c .before .before .before .before .before .test-component .ensures) _ (c .before .before .before .next .given .1) (sym (c .before .opens-component .ensures) ∙ not-false _ (c .if1 .left)) in
+    let read-component = c .before .before .before .before .before .before .before .read-component in
+    let n = reads-inside (read-component .ensures) (c .before .opens-component .ensures) (not-false _ (c .if1 .left)) in
     omega (arith, n)
 
 loop-less : tie.Need-loop-less Inv-loop μ-loop
 loop-less c =
-    let args = c .before .before .before .before .before .before .before .before .before .before .before .args in
-    let loop = c .before .before .before .before .before .before .before .before .loop in
-    let n = going-inside (args .service) (guideOf (args .book .now)) (args .message .now) (args .from) (args .some) (args .element) (args .first) (args .last) (loop .component) (loop .start) (loop .field) (loop .inv) _ (c .before .before .before .before .before .before .before .read-component .ensures) _ (c .before .before .before .before .before .test-component .ensures) _ (c .before .before .before .next .given .1) (sym (c .before .opens-component .ensures) ∙ not-false _ (c .if1 .left)) in
+    let read-component = c .before .before .before .before .before .before .before .read-component in
+    let n = reads-inside (read-component .ensures) (c .before .opens-component .ensures) (not-false _ (c .if1 .left)) in
     omega (arith, n)
 
 loop-again : tie.Need-loop-again Inv-loop μ-loop

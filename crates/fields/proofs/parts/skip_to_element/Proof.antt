@@ -5,7 +5,7 @@ use mathlib.Core.Path.{sym, _∙_}
 use lib.ListN.{length}
 use borrow.Author.Needs.{needs}
 use borrow.Author.Tests.{not-true, not-false}
-use Rattle.fields.proofs.Cutting.{Skipping, skipping-begin, skipping-inside, skipping-on, skipping-done}
+use Rattle.fields.proofs.Cutting.{reads-inside, Skipping, skipping-begin, skipping-on, skipping-done}
 use Rattle.fields.proofs.parts.skip_to_element.Statement.{statement}
 use Rattle.fields.proofs.parts.skip_to_element.Tie as tie
 
@@ -33,17 +33,15 @@ returns c =
 
 add-start : tie.Need-add-start Inv-loop μ-loop
 add-start c =
-    let loop = c .before .before .before .loop in
     let read-component = c .before .before .read-component in
-    let args = c .before .before .before .before .before .args in
-    let n = skipping-inside (args .service) (args .message .now) (args .from) (loop .start) (loop .inv) _ (read-component .ensures) (sym (c .before .opens-component .ensures) ∙ not-false _ (c .if1 .left)) in omega arith
+    let n = reads-inside (read-component .ensures) (c .before .opens-component .ensures) (not-false _ (c .if1 .left)) in
+    omega arith
 
 loop-less : tie.Need-loop-less Inv-loop μ-loop
 loop-less c =
-    let loop = c .before .before .before .loop in
     let read-component = c .before .before .read-component in
-    let args = c .before .before .before .before .before .args in
-    let n = skipping-inside (args .service) (args .message .now) (args .from) (loop .start) (loop .inv) _ (read-component .ensures) (sym (c .before .opens-component .ensures) ∙ not-false _ (c .if1 .left)) in omega arith
+    let n = reads-inside (read-component .ensures) (c .before .opens-component .ensures) (not-false _ (c .if1 .left)) in
+    omega arith
 
 loop-again : tie.Need-loop-again Inv-loop μ-loop
 loop-again c =

@@ -1,13 +1,8 @@
 -- `placed::placed_stage` meets its contract: element and component of a fault fit, since the message is not longer than 01 allows.
 use native.Mathlib.Omega.{arith}
-use mathlib.Core.Path.{sym, ap, _∙_}
 use lib.ListN.{length, take}
 use Rattle.guide.specs.meaning.Guide.{guideOf}
-use Rattle.rules.specs.method.Identifiers.{identified}
-use Rattle.fields.specs.declared.passes.FirstFault.{FirstFault}
-use Rattle.judging.specs.method.Table.{identifierIn, identifierVerdict}
-use Rattle.judging.specs.meaning.Answers.{fieldsVerdict}
-use Rattle.judging.proofs.PlacedStages.{in-reach}
+use Rattle.judging.proofs.PlacedStages.{fields-told, in-reach}
 use borrow.Author.Needs.{needs}
 use Rattle.judging.proofs.placed.placed_stage.Statement.{statement}
 use Rattle.judging.proofs.placed.placed_stage.Tie as tie
@@ -43,16 +38,17 @@ rules-stage-requires c κs = search needs
 
 returns : tie.Need-returns
 returns c =
-    let place = c .before .before .place in
     let test-fields = c .before .before .before .before .test-fields in
     let args = c .before .before .before .before .before .before .before .before .before .before .args in
-    ((c .fault-verdict .ensures)) ∙ ap (λ (f : FirstFault). fieldsVerdict f (identifierVerdict (guideOf (args .book .now)) (args .conditions .now) (args .segments) (take (args .segments) (args .homes .now)) (identified (guideOf (args .book .now)) (identifierIn (args .service) (guideOf (args .book .now)) (args .message .now) (take (args .segments) (args .starts .now)) (take (args .segments) (args .homes .now)))))) (sym (place .given .1) ∙ (test-fields .ensures .0))
+    fields-told (args .service) (guideOf (args .book .now)) (args .message .now) (args .conditions .now) (args .segments) (take (args .segments) (args .starts .now))
+    (take (args .segments) (args .homes .now)) _ _ _ (c .fault-verdict .ensures) (c .before .before .place .given .1) (test-fields .ensures .0)
 
 returns-2 : tie.Need-returns-2
 returns-2 c =
     let test-fields = c .before .before .before .test-fields in
     let args = c .before .before .before .before .before .before .before .before .before .args in
-    ((c .rules-stage .ensures)) ∙ ap (λ (f : FirstFault). fieldsVerdict f (identifierVerdict (guideOf (args .book .now)) (args .conditions .now) (args .segments) (take (args .segments) (args .homes .now)) (identified (guideOf (args .book .now)) (identifierIn (args .service) (guideOf (args .book .now)) (args .message .now) (take (args .segments) (args .starts .now)) (take (args .segments) (args .homes .now)))))) (sym ((c .before .enum-told .given .1)) ∙ (test-fields .ensures .0))
+    fields-told (args .service) (guideOf (args .book .now)) (args .message .now) (args .conditions .now) (args .segments) (take (args .segments) (args .starts .now))
+    (take (args .segments) (args .homes .now)) _ _ _ (c .rules-stage .ensures) (c .before .enum-told .given .1) (test-fields .ensures .0)
 
 pub placed-stage-spec : {M : Type 1} → statement M
 placed-stage-spec =

@@ -13,11 +13,8 @@ carrier-requires c κs = search needs
 place-of-requires : tie.Need-place-of-requires
 place-of-requires c κs = search needs
 
-entry-for-requires : tie.Need-entry-for-requires
-entry-for-requires c κs = search needs
-
-entry-at-requires : tie.Need-entry-at-requires
-entry-at-requires c κs = search needs
+start-of-requires : tie.Need-start-of-requires
+start-of-requires c κs = search needs
 
 cast-at : tie.Need-cast-at
 cast-at c = search needs
@@ -47,24 +44,28 @@ returns : tie.Need-returns
 returns c =
     let find-identifier = c .before .before .before .find-identifier in
     let find-component = c .before .before .before .before .find-component in
-    let entry-at = c .before .before .before .before .before .entry-at in
-    let entry-for = c .before .before .before .before .before .before .entry-for in
-    let place-of = c .before .before .before .before .before .before .before .place-of in
-    let carrier = c .before .before .before .before .before .before .before .before .carrier in
-    let args = c .before .before .before .before .before .before .before .before .before .before .before .before .before .before .args in
-    ((c .answer .ensures)) ∙ foreign-found (args .service) (guideOf (args .book .now)) (args .message .now) (take (args .segments) (args .starts .now)) (take (args .segments) (args .homes .now)) _ _ _ _ _ _ (carrier .ensures .0) (place-of .ensures) (entry-for .ensures) (entry-at .ensures) (find-component .ensures .bytes) (find-identifier .ensures) (args .conditions .now) (args .segments) ((c .before .enum-told .given .1))
+    let start-of = c .before .before .before .before .before .start-of in
+    let place-of = c .before .before .before .before .before .before .place-of in
+    let carrier = c .before .before .before .before .before .before .before .carrier in
+    let args = c .before .before .before .before .before .before .before .before .before .before .before .before .before .args in
+    c .answer .ensures
+    ∙ foreign-found (args .service) (guideOf (args .book .now)) (args .message .now) (take (args .segments) (args .starts .now)) (take (args .segments) (args .homes .now)) _ _ _ _ _
+    (carrier .ensures .0) (place-of .ensures) (start-of .ensures) (find-component .ensures .bytes) (find-identifier .ensures) (args .conditions .now) (args .segments)
+    (c .before .enum-told .given .1)
 
 returns-2 : tie.Need-returns-2
 returns-2 c =
     let known = c .before .before .before .known in
     let find-identifier = c .before .before .before .before .before .find-identifier in
     let find-component = c .before .before .before .before .before .before .find-component in
-    let entry-at = c .before .before .before .before .before .before .before .entry-at in
-    let entry-for = c .before .before .before .before .before .before .before .before .entry-for in
-    let place-of = c .before .before .before .before .before .before .before .before .before .place-of in
-    let carrier = c .before .before .before .before .before .before .before .before .before .before .carrier in
-    let args = c .before .before .before .before .before .before .before .before .before .before .before .before .before .before .before .before .args in
-    ((c .row-verdict .ensures)) ∙ known-found (args .service) (guideOf (args .book .now)) (args .message .now) (take (args .segments) (args .starts .now)) (take (args .segments) (args .homes .now)) _ _ _ _ _ _ (carrier .ensures .0) (place-of .ensures) (entry-for .ensures) (entry-at .ensures) (find-component .ensures .bytes) (find-identifier .ensures) (args .conditions .now) (args .segments) _ _ (known .given .1) ((c .before .first-row .ensures))
+    let start-of = c .before .before .before .before .before .before .before .start-of in
+    let place-of = c .before .before .before .before .before .before .before .before .place-of in
+    let carrier = c .before .before .before .before .before .before .before .before .before .carrier in
+    let args = c .before .before .before .before .before .before .before .before .before .before .before .before .before .before .before .args in
+    c .row-verdict .ensures
+    ∙ known-found (args .service) (guideOf (args .book .now)) (args .message .now) (take (args .segments) (args .starts .now)) (take (args .segments) (args .homes .now)) _ _ _ _ _
+    (carrier .ensures .0) (place-of .ensures) (start-of .ensures) (find-component .ensures .bytes) (find-identifier .ensures) (args .conditions .now) (args .segments) _ _
+    (known .given .1) (c .before .first-row .ensures)
 
 pub rules-stage-spec : {M : Type 1} → statement M
 rules-stage-spec =
@@ -72,8 +73,7 @@ rules-stage-spec =
     (tie.spec
     carrier-requires
     place-of-requires
-    entry-for-requires
-    entry-at-requires
+    start-of-requires
     cast-at
     find-component-requires
     find-identifier-requires

@@ -23,30 +23,30 @@ returns c =
     let args = c .before .before .before .before .before .args in
     ((c .answer .ensures)) ∙ conditions-many (args .conditions .now) (guideOf (args .book .now)) _ (conditions .ensures .0) ((c .before .if1 .taken))
 
-are-known-requires : tie.Need-are-known-requires
-are-known-requires c κs = search needs
+are-truth-values-requires : tie.Need-are-truth-values-requires
+are-truth-values-requires c κs = search needs
 
 answer-requires-2 : tie.Need-answer-requires-2
 answer-requires-2 c κs = search needs
 
 returns-2 : tie.Need-returns-2
 returns-2 c =
-    let are-known = c .before .before .are-known in
+    let are-truth-values = c .before .before .are-truth-values in
     let if1 = c .before .before .before .if1 in
     let conditions = c .before .before .before .before .conditions in
     let args = c .before .before .before .before .before .before .before .args in
-    ((c .answer2 .ensures)) ∙ conditions-known (args .conditions .now) (guideOf (args .book .now)) _ (conditions .ensures .0) _ false (if1 .left) (are-known .ensures) (not-true _ ((c .before .if2 .taken)))
+    ((c .answer2 .ensures)) ∙ conditions-known (args .conditions .now) (guideOf (args .book .now)) _ (conditions .ensures .0) _ false (if1 .left) (are-truth-values .ensures) (not-true _ ((c .before .if2 .taken)))
 
 answer-requires-3 : tie.Need-answer-requires-3
 answer-requires-3 c κs = search needs
 
 returns-3 : tie.Need-returns-3
 returns-3 c =
-    let are-known = c .before .before .are-known in
+    let are-truth-values = c .before .before .are-truth-values in
     let if1 = c .before .before .before .if1 in
     let conditions = c .before .before .before .before .conditions in
     let args = c .before .before .before .before .before .before .before .args in
-    ((c .answer3 .ensures)) ∙ conditions-known (args .conditions .now) (guideOf (args .book .now)) _ (conditions .ensures .0) _ true (if1 .left) (are-known .ensures) (not-false _ ((c .before .if2 .left)))
+    ((c .answer3 .ensures)) ∙ conditions-known (args .conditions .now) (guideOf (args .book .now)) _ (conditions .ensures .0) _ true (if1 .left) (are-truth-values .ensures) (not-false _ ((c .before .if2 .left)))
 
 pub conditions-stage-spec : {M : Type 1} → statement M
 conditions-stage-spec =
@@ -56,7 +56,7 @@ conditions-stage-spec =
     cast-wanted
     answer-requires
     returns
-    are-known-requires
+    are-truth-values-requires
     answer-requires-2
     returns-2
     answer-requires-3

@@ -1,6 +1,5 @@
 -- `refusing::placing_stage` meets its contract.
-use mathlib.Core.Path.{sym, ap, _∙_}
-use Rattle.judging.specs.meaning.Answers.{placingVerdict}
+use Rattle.judging.proofs.Refusals.{placing-told}
 use borrow.Author.Needs.{needs}
 use Rattle.judging.proofs.refusing.placing_stage.Statement.{statement}
 use Rattle.judging.proofs.refusing.placing_stage.Tie as tie
@@ -30,21 +29,19 @@ returns : tie.Need-returns
 returns c =
     let test-placing = c .before .before .before .test-placing in
     let args = c .before .before .before .before .before .before .args in
-    ((c .answer .ensures)) ∙ ap (placingVerdict (args .segments)) (sym ((c .before .enum-told .given .1)) ∙ (test-placing .ensures))
+    placing-told (args .service) (args .message .now) (args .book .now) (args .segments) _ _ _ (c .answer .ensures) (c .before .enum-told .given .1) (test-placing .ensures)
 
 returns-2 : tie.Need-returns-2
 returns-2 c =
-    let place = c .before .before .place in
     let test-placing = c .before .before .before .before .test-placing in
     let args = c .before .before .before .before .before .before .before .args in
-    ((c .answer2 .ensures)) ∙ ap (placingVerdict (args .segments)) (sym (place .given .1) ∙ (test-placing .ensures))
+    placing-told (args .service) (args .message .now) (args .book .now) (args .segments) _ _ _ (c .answer2 .ensures) (c .before .before .place .given .1) (test-placing .ensures)
 
 returns-3 : tie.Need-returns-3
 returns-3 c =
-    let place2 = c .before .before .place2 in
     let test-placing = c .before .before .before .before .test-placing in
     let args = c .before .before .before .before .before .before .before .args in
-    ((c .answer3 .ensures)) ∙ ap (placingVerdict (args .segments)) (sym (place2 .given .1) ∙ (test-placing .ensures))
+    placing-told (args .service) (args .message .now) (args .book .now) (args .segments) _ _ _ (c .answer3 .ensures) (c .before .before .place2 .given .1) (test-placing .ensures)
 
 pub placing-stage-spec : {M : Type 1} → statement M
 placing-stage-spec =

@@ -7,9 +7,10 @@ use mathlib.Core.List.{List, _++_}
 use borrow.Author.Tests.{not-true, not-false}
 use borrow.Author.Needs.{needs}
 use Rattle.guide.specs.meaning.Plan.{planIn}
+use Rattle.guide.proofs.WideNumbers.{maximum-small}
 use Rattle.placing.specs.method.Walking.{entered, openLines}
 use Rattle.placing.specs.declared.walk.Level.{Level}
-use Rattle.placing.proofs.Steps.{maximum-fits, move-room, admits-high, admits-still, admits-shut, stacked-is, stands-next, advance-yes, advance-off, advance-no, too-deep, in-depths}
+use Rattle.placing.proofs.Steps.{move-room, admits-high, admits-still, admits-shut, stacked-is, stands-next, advance-yes, advance-off, advance-no, too-deep, in-depths}
 use Rattle.placing.proofs.walk.advance.Statement.{statement}
 use Rattle.placing.proofs.walk.advance.Tie as tie
 
@@ -98,7 +99,7 @@ raise-requires c κs =
     let target-of = c .before .before .before .before .before .before .before .before .before .before .target-of in
     let args = c .before .before .before .before .before .before .before .before .before .before .before .before .before .args in
     let shared-slice-known = c .before .before .before .before .before .before .before .before .before .before .before .before .shared-slice-known in
-    λ e. omega (arith, move-room (planIn (args .book .now)) _ _ _ (can-move .ensures) (not-false _ (if3 .left)) e, maximum-fits (args .book .now) (λ (k : ℕ). omega (arith, (shared-slice-known .given) k)) (target-of .result))
+    λ e. omega (arith, move-room (planIn (args .book .now)) _ _ _ (can-move .ensures) (not-false _ (if3 .left)) e, maximum-small (args .book .now) (λ (k : ℕ). omega (arith, (shared-slice-known .given) k)) (target-of .result))
 
 move-to-requires : tie.Need-move-to-requires
 move-to-requires c κs = search needs

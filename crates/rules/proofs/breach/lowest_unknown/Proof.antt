@@ -5,9 +5,9 @@ use native.Mathlib.Omega.{arith}
 use mathlib.Core.Path.{_≡_, sym, ap, _∙_}
 use borrow.Author.Needs.{needs}
 use Rattle.guide.specs.meaning.Guide.{guideOf}
-use Rattle.rules.specs.method.FirstFound.{firstUnknown}
 use Rattle.rules.specs.meaning.Rows.{conditionsOf}
-use Rattle.rules.specs.method.Scanning.{rowNumbered}
+use Rattle.guide.specs.meaning.View.{rowNumbered}
+use Rattle.rules.specs.method.Scanning.{firstUnknown}
 use Rattle.rules.proofs.Loops.{lowestFrom, lowest-all, lowest-end, lowest-unused, lowest-here, lowest-on, is-unknown, not-unknown}
 use Rattle.rules.proofs.breach.lowest_unknown.Statement.{statement}
 use Rattle.rules.proofs.breach.lowest_unknown.Tie as tie

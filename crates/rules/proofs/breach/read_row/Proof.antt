@@ -5,7 +5,8 @@ use mathlib.Core.Path.{_≡_, sym, _∙_}
 use lib.Dec.{eqb}
 use borrow.Author.Needs.{needs}
 use Rattle.guide.specs.meaning.Guide.{guideOf}
-use Rattle.rules.specs.method.Scanning.{readRow, rowNumbered}
+use Rattle.guide.specs.meaning.View.{rowNumbered}
+use Rattle.rules.specs.method.Scanning.{readRow}
 use Rattle.rules.proofs.Loops.{readingFrom, reading-all, reading-end, reading-unused, reading-decided, reading-on, decided}
 use Rattle.rules.proofs.breach.read_row.Statement.{statement}
 use Rattle.rules.proofs.breach.read_row.Tie as tie

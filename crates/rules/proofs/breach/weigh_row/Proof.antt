@@ -1,9 +1,9 @@
 -- `breach::weigh_row` meets its contract: from the two readings. Assumes nothing.
 use mathlib.Core.Path.{refl, _∙_}
 use Rattle.guide.specs.meaning.Guide.{guideOf}
-use Rattle.rules.specs.method.FirstFound.{firstUnknown}
 use Rattle.rules.specs.meaning.Rows.{conditionsOf}
-use Rattle.rules.specs.method.Scanning.{rowNumbered}
+use Rattle.guide.specs.meaning.View.{rowNumbered}
+use Rattle.rules.specs.method.Scanning.{firstUnknown}
 use Rattle.rules.proofs.Watching.{always, sometimes, never, weighs}
 use borrow.Author.Needs.{needs}
 use Rattle.rules.proofs.breach.weigh_row.Statement.{statement}

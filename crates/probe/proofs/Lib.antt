@@ -1,0 +1,3 @@
+-- What the proofs of the probe share, and that its promises have one outcome.
+pub mod Standard
+pub mod OneOutcome

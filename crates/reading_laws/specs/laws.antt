@@ -1,0 +1,2 @@
+-- Words that the laws of reading are said in. No demand and no promise rests on them.
+pub mod Outcome

@@ -1,2 +1,0 @@
--- That the promises of the probes have one outcome.
-pub mod OneOutcome

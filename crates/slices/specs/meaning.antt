@@ -1,0 +1,2 @@
+-- What is written into a lent table.
+pub mod Lent
