@@ -8,6 +8,7 @@ use mathlib.Core.Logic.{_↔_, inl, inr}
 use lib.Dec.{eqb, leb}
 use lib.ListN.{length}
 use borrow.Author.Tests.{eq-eqb, ne-eqb, eqb-true, eqb-false, le-leb, leb-true}
+use Rattle.guide.specs.meaning.Words.{groupKind}
 use Rattle.guide.specs.meaning.Guide.{Guide, guideOf}
 use Rattle.book.specs.meaning.GoodBook.{GoodBook, frameRule}
 use Rattle.guide.specs.meaning.View.{lineOf}
@@ -78,7 +79,7 @@ module _ (book : List ℕ) (good : GoodBook book) where
       let tagged : hasTag (x .tag) (lineOf (guideOf book) (guideOf book .lines) .tag) ≡ true =
       sym (same-tag book good (guideOf book .lines) (omega arith) (omega arith) (x .tag) v)
       ∙ eq-eqb (guideOf book .tag (guideOf book .lines)) (tagNumber (x .tag)) (f .1 .0 ∙ sym (ap tagNumber e)) in
-      rw (ne-eqb (guideOf book .kind (guideOf book .lines)) 2 (λ z. let k = f .0 in omega arith), tagged, eq-eqb (guideOf book .selectorElement (guideOf book .lines)) 0 (f .1 .1 .1 .1 .1))
+      rw (ne-eqb (guideOf book .kind (guideOf book .lines)) groupKind (λ z. let k = f .0 in omega arith), tagged, eq-eqb (guideOf book .selectorElement (guideOf book .lines)) 0 (f .1 .1 .1 .1 .1))
 
   last-home : (x : Segment) → ValidTag (x .tag) → x .tag ≡ UNT → homeOf (guideOf book) x ≡ guideOf book .lines
   last-home x v e =

@@ -8,6 +8,7 @@ use mathlib.Core.Logic.{_↔_}
 use lib.Dec.{eqb, leb, eqb·suc-zero}
 use lib.ListN.{length}
 use borrow.Author.Tests.{eq-eqb, eqb-true, eqb-false, leb-true, le-leb, not-false}
+use Rattle.guide.specs.meaning.Words.{emptyPresence, mustPresence, numberForm, withElementPresence}
 use Rattle.guide.specs.meaning.Guide.{Guide, guideOf}
 use Rattle.book.specs.meaning.GoodBook.{GoodBook, fieldRule, rangeRule}
 use Rattle.guide.specs.meaning.View.{numbersFrom, codeValue, fieldOf}
@@ -133,23 +134,23 @@ module _ (s : Service) (service : GoodService s) (mark : GoodMark s) (book : Lis
             (both (le-leb _ _ (subst (λ (k : ℕ). k ≤ g .longest f) (sym (figures-as-written s service mark v n)) (i .short))) (has-code v .1 (i .code))),
       )
 
-  fits-by : (t : Bool) (x : Raw) → eqb (g .form f) 2 ≡ t → fits s g f x ≡ cond t (fitsNumber s g f x) (fitsText s g f x)
+  fits-by : (t : Bool) (x : Raw) → eqb (g .form f) numberForm ≡ t → fits s g f x ≡ cond t (fitsNumber s g f x) (fitsText s g f x)
   unfolding fits
   fits-by t x e = ap (λ (u : Bool). cond u (fitsNumber s g f x) (fitsText s g f x)) e
 
   fits-sound : (v : Component) → fits s g f (rawOf s v) ≡ true → Fits s (fieldOf g f) v
-  fits-sound v h = go (eqb (g .form f) 2) refl
+  fits-sound v h = go (eqb (g .form f) numberForm) refl
     where
-      go : (t : Bool) → eqb (g .form f) 2 ≡ t → Fits s (fieldOf g f) v
+      go : (t : Bool) → eqb (g .form f) numberForm ≡ t → Fits s (fieldOf g f) v
       go true e =
           record { numeric = λ i. numeric v .0 (sym (fits-by true (rawOf s v) e) ∙ h); text = λ n. absurd (n (eqb-true _ _ e)) }
       go false e =
           record { numeric = λ i. absurd (eqb-false _ _ e i); text = λ n. text v .0 (sym (fits-by false (rawOf s v) e) ∙ h) }
 
   fits-complete : (v : Component) → Fits s (fieldOf g f) v → fits s g f (rawOf s v) ≡ true
-  fits-complete v i = go (eqb (g .form f) 2) refl
+  fits-complete v i = go (eqb (g .form f) numberForm) refl
     where
-      go : (t : Bool) → eqb (g .form f) 2 ≡ t → fits s g f (rawOf s v) ≡ true
+      go : (t : Bool) → eqb (g .form f) numberForm ≡ t → fits s g f (rawOf s v) ≡ true
       go true e = fits-by true (rawOf s v) e ∙ numeric v .1 (i .numeric (eqb-true _ _ e))
       go false e = fits-by false (rawOf s v) e ∙ text v .1 (i .text (eqb-false _ _ e))
 
@@ -174,13 +175,13 @@ module _ (s : Service) (g : Guide) (some : Bool) (f : ℕ) where
   unfolding isBroken writeComponent hasBytes
   broken-none = refl
 
-  broken-some : (x : Raw) → hasBytes x ≡ true → isBroken s g some f x ≡ (eqb (g .presence f) 0 || not (fits s g f x))
+  broken-some : (x : Raw) → hasBytes x ≡ true → isBroken s g some f x ≡ (eqb (g .presence f) emptyPresence || not (fits s g f x))
   unfolding isBroken
-  broken-some x h = ap (λ (t : Bool). cond t (eqb (g .presence f) 0 || not (fits s g f x)) (isMissing g some f)) h
+  broken-some x h = ap (λ (t : Bool). cond t (eqb (g .presence f) emptyPresence || not (fits s g f x)) (isMissing g some f)) h
 
-  missing-by : (t u : Bool) → eqb (g .presence f) 1 ≡ t → eqb (g .presence f) 3 ≡ u → isMissing g some f ≡ (t || (u && some))
+  missing-by : (t u : Bool) → eqb (g .presence f) mustPresence ≡ t → eqb (g .presence f) withElementPresence ≡ u → isMissing g some f ≡ (t || (u && some))
   unfolding isMissing
-  missing-by t u p q = ap (λ (x : Bool). x || (eqb (g .presence f) 3 && some)) p ∙ ap (λ (x : Bool). t || (x && some)) q
+  missing-by t u p q = ap (λ (x : Bool). x || (eqb (g .presence f) withElementPresence && some)) p ∙ ap (λ (x : Bool). t || (x && some)) q
 
 module _ (s : Service) (g : Guide) (v : Values) (f : ℕ) (right-test : (x : Component) → (fits s g f (rawOf s x) ≡ true) ↔ Fits s (fieldOf g f) x) where
   abbrev e : ℕ
@@ -190,21 +191,21 @@ module _ (s : Service) (g : Guide) (v : Values) (f : ℕ) (right-test : (x : Com
   c = g .component f
 
   missing-sound : (some : Bool) → Known v e some → v e c ≡ [] → isMissing g some f ≡ true → Breaks s (fieldOf g f) v
-  missing-sound some k z h = go (eqb (g .presence f) 1) (eqb (g .presence f) 3) some refl refl refl
+  missing-sound some k z h = go (eqb (g .presence f) mustPresence) (eqb (g .presence f) withElementPresence) some refl refl refl
     where
-      go : (t u w : Bool) → eqb (g .presence f) 1 ≡ t → eqb (g .presence f) 3 ≡ u → some ≡ w → Breaks s (fieldOf g f) v
+      go : (t u w : Bool) → eqb (g .presence f) mustPresence ≡ t → eqb (g .presence f) withElementPresence ≡ u → some ≡ w → Breaks s (fieldOf g f) v
       go true u w p q o = must-have (eqb-true _ _ p) z
       go false true true p q o = must-with (eqb-true _ _ q) z (k .has o .0) (k .has o .1)
       go false true false p q o = absurd (false≢true (sym o ∙ sym (missing-by s g some f false true p q) ∙ h))
       go false false w p q o = absurd (false≢true (sym (missing-by s g some f false false p q) ∙ h))
 
   full-sound : (some : Bool) (x : Component) → v e c ≡ x → HasBytes x → isBroken s g some f (rawOf s x) ≡ true → hasBytes (rawOf s x) ≡ true → Breaks s (fieldOf g f) v
-  full-sound some x z n h b = go (eqb (g .presence f) 0) (fits s g f (rawOf s x)) refl refl (sym (broken-some s g some f (rawOf s x) b) ∙ h)
+  full-sound some x z n h b = go (eqb (g .presence f) emptyPresence) (fits s g f (rawOf s x)) refl refl (sym (broken-some s g some f (rawOf s x) b) ∙ h)
     where
       full : HasBytes (v e c)
       full y = n (sym z ∙ y)
 
-      go : (t u : Bool) → eqb (g .presence f) 0 ≡ t → fits s g f (rawOf s x) ≡ u → (eqb (g .presence f) 0 || not (fits s g f (rawOf s x))) ≡ true → Breaks s (fieldOf g f) v
+      go : (t u : Bool) → eqb (g .presence f) emptyPresence ≡ t → fits s g f (rawOf s x) ≡ u → (eqb (g .presence f) emptyPresence || not (fits s g f (rawOf s x))) ≡ true → Breaks s (fieldOf g f) v
       go true u p q o = must-be-empty (eqb-true _ _ p) full
       go false true p q o = absurd (false≢true (rw (p, q) at o))
       go false false p q o =
@@ -217,23 +218,23 @@ module _ (s : Service) (g : Guide) (v : Values) (f : ℕ) (right-test : (x : Com
   complete : (some : Bool) (x : Component) → v e c ≡ x → Known v e some → isBroken s g some f (rawOf s x) ≡ false → Breaks s (fieldOf g f) v → ⊥
   complete some [] z k h (must-be-empty p y) = y z
   complete some [] z k h (must-have p y) =
-      true≢false (sym (missing-by s g some f true (eqb (g .presence f) 3) (eq-eqb _ _ p) refl) ∙ sym (broken-none s g some f) ∙ h)
+      true≢false (sym (missing-by s g some f true (eqb (g .presence f) withElementPresence) (eq-eqb _ _ p) refl) ∙ sym (broken-none s g some f) ∙ h)
   complete some [] z k h (must-with p y d w) = go some refl
     where
       go : (o : Bool) → some ≡ o → ⊥
       go true o =
           true≢false (
-          sym (missing-by s g some f (eqb (g .presence f) 1) true refl (eq-eqb _ _ p) ∙ ap (λ (u : Bool). eqb (g .presence f) 1 || u) o ∙ or-true (eqb (g .presence f) 1))
+          sym (missing-by s g some f (eqb (g .presence f) mustPresence) true refl (eq-eqb _ _ p) ∙ ap (λ (u : Bool). eqb (g .presence f) mustPresence || u) o ∙ or-true (eqb (g .presence f) mustPresence))
           ∙ sym (broken-none s g some f) ∙ h
           )
       go false o = w (k .lacks o d)
   complete some [] z k h (unfit y w) = y z
   complete some (b ∷ x) z k h (must-be-empty p y) =
-      true≢false (sym (eq-eqb (g .presence f) 0 p) ∙ neither (eqb (g .presence f) 0) (not (fits s g f (rawOf s (b ∷ x)))) (sym (broken-some s g some f (rawOf s (b ∷ x)) (raw-some s b x)) ∙ h) .0)
+      true≢false (sym (eq-eqb (g .presence f) emptyPresence p) ∙ neither (eqb (g .presence f) emptyPresence) (not (fits s g f (rawOf s (b ∷ x)))) (sym (broken-some s g some f (rawOf s (b ∷ x)) (raw-some s b x)) ∙ h) .0)
   complete some (b ∷ x) z k h (must-have p y) = raw-has s (b ∷ x) (raw-some s b x) (sym z ∙ y)
   complete some (b ∷ x) z k h (must-with p y d w) = raw-has s (b ∷ x) (raw-some s b x) (sym z ∙ y)
   complete some (b ∷ x) z k h (unfit y w) =
-      let q = neither (eqb (g .presence f) 0) (not (fits s g f (rawOf s (b ∷ x)))) (sym (broken-some s g some f (rawOf s (b ∷ x)) (raw-some s b x)) ∙ h) .1 in
+      let q = neither (eqb (g .presence f) emptyPresence) (not (fits s g f (rawOf s (b ∷ x)))) (sym (broken-some s g some f (rawOf s (b ∷ x)) (raw-some s b x)) ∙ h) .1 in
       w (subst (Fits s (fieldOf g f)) (sym z) (right-test (b ∷ x) .0 (not-false (fits s g f (rawOf s (b ∷ x))) q)))
 
   pub tests : Tests s g v f

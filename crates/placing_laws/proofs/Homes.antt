@@ -10,6 +10,7 @@ use mathlib.Core.Logic.{_⊎_, inl, inr, dite}
 use lib.Dec.{eqb}
 use lib.ListN.{getD}
 use borrow.Author.Tests.{eq-eqb, eqb-true, eqb-false}
+use Rattle.guide.specs.meaning.Words.{groupKind, segmentKind}
 use Rattle.guide.specs.meaning.Guide.{guideOf}
 use Rattle.book.specs.meaning.Rule.{Holds}
 use Rattle.book.specs.meaning.GoodBook.{GoodBook, tagRule, tagByteRule, sameTagRule, samePlaceRule, toldApartRule, pairRule}
@@ -59,7 +60,7 @@ module _ (book : List ℕ) (good : GoodBook book) (l : ℕ) (from : 1 ≤ l) (to
       of (inl r) = let k = r .1 in omega arith
       of (inr r) = let k = r .1 in omega arith
 
-      go : (guideOf book .kind l ≡ 1) ⊎ (guideOf book .kind l ≡ 2) → x < 256
+      go : (guideOf book .kind l ≡ segmentKind) ⊎ (guideOf book .kind l ≡ groupKind) → x < 256
       go (inl e) = of (h .0 e)
       go (inr e) = let k = h .1 e in omega arith
 
@@ -108,8 +109,8 @@ module _ (book : List ℕ) (good : GoodBook book) (l : ℕ) (from : 1 ≤ l) (to
     pub fits-same : fitsAt s (guideOf book) bs at l ≡ fits (lineOf (guideOf book) l) g
     unfolding fitsAt fits
     fits-same =
-        ap₂ (λ (x y : Bool). x && (not (eqb (guideOf book .kind l) 2) && y)) (ap (eqb (guideOf book .tag l)) (tag-of-segment s bs at g i) ∙ same-tag (g .tag) (i .valid .tag)) selected-same
-        ∙ swap (hasTag (g .tag) (lineOf (guideOf book) l .tag)) (not (eqb (guideOf book .kind l) 2)) (isSelected (lineOf (guideOf book) l) g)
+        ap₂ (λ (x y : Bool). x && (not (eqb (guideOf book .kind l) groupKind) && y)) (ap (eqb (guideOf book .tag l)) (tag-of-segment s bs at g i) ∙ same-tag (g .tag) (i .valid .tag)) selected-same
+        ∙ swap (hasTag (g .tag) (lineOf (guideOf book) l .tag)) (not (eqb (guideOf book .kind l) groupKind)) (isSelected (lineOf (guideOf book) l) g)
       where
         swap : (x y z : Bool) → (x && (y && z)) ≡ (y && (x && z))
         swap true y z = refl
@@ -140,17 +141,17 @@ module _ (book : List ℕ) (good : GoodBook book) where
     abbrev Fits : ℕ → Type 0
     Fits l = fits (lineOf (guideOf book) l) g ≡ true
 
-    is-segment : (l : ℕ) → 1 ≤ l → l ≤ guideOf book .lines → Fits l → guideOf book .kind l ≡ 1
+    is-segment : (l : ℕ) → 1 ≤ l → l ≤ guideOf book .lines → Fits l → guideOf book .kind l ≡ segmentKind
     unfolding fits
     is-segment l a c h = go (line-kind book good l a c)
       where
-        go : (guideOf book .kind l ≡ 1) ⊎ (guideOf book .kind l ≡ 2) → guideOf book .kind l ≡ 1
+        go : (guideOf book .kind l ≡ segmentKind) ⊎ (guideOf book .kind l ≡ groupKind) → guideOf book .kind l ≡ segmentKind
         go (inl e) = e
-        go (inr e) = absurd (true≢false (sym (eq-eqb (guideOf book .kind l) 2 e) ∙ denied (eqb (guideOf book .kind l) 2) (left (not (eqb (guideOf book .kind l) 2)) _ h)))
+        go (inr e) = absurd (true≢false (sym (eq-eqb (guideOf book .kind l) groupKind e) ∙ denied (eqb (guideOf book .kind l) groupKind) (left (not (eqb (guideOf book .kind l) groupKind)) _ h)))
 
     tag-of : (l : ℕ) → Fits l → g .tag .first ∷ g .tag .second ∷ g .tag .third ∷ [] ≡ lineOf (guideOf book) l .tag
     unfolding fits
-    tag-of l h = same-bytes-true _ _ (left (hasTag (g .tag) (lineOf (guideOf book) l .tag)) _ (right (not (eqb (guideOf book .kind l) 2)) _ h))
+    tag-of l h = same-bytes-true _ _ (left (hasTag (g .tag) (lineOf (guideOf book) l .tag)) _ (right (not (eqb (guideOf book .kind l) groupKind)) _ h))
 
     tag-is : (l : ℕ) → Fits l → guideOf book .tag l ≡ tagNumber (g .tag)
     tag-is l h =
@@ -166,7 +167,7 @@ module _ (book : List ℕ) (good : GoodBook book) where
     unfolding fits
     code-of l h one =
         among-code (valueAt g (guideOf book .selectorElement l) (guideOf book .selectorComponent l)) (guideOf book .firstCode l) (guideOf book .codeCount l)
-        (go (eqb (guideOf book .selectorElement l) 0) refl (right (hasTag (g .tag) (lineOf (guideOf book) l .tag)) _ (right (not (eqb (guideOf book .kind l) 2)) _ h)))
+        (go (eqb (guideOf book .selectorElement l) 0) refl (right (hasTag (g .tag) (lineOf (guideOf book) l .tag)) _ (right (not (eqb (guideOf book .kind l) groupKind)) _ h)))
       where
         go : (v : Bool) → eqb (guideOf book .selectorElement l) 0 ≡ v
             → (v || isAmong (valueAt g (guideOf book .selectorElement l) (guideOf book .selectorComponent l)) (lineOf (guideOf book) l .codes)) ≡ true

@@ -11,6 +11,7 @@ use mathlib.Core.Logic.{dite}
 use mathlib.Core.Bool.{true, false, true≢false, cond}
 use lib.Dec.{eqb}
 use borrow.Author.Tests.{eq-eqb, eqb-true}
+use Rattle.guide.specs.meaning.Words.{groupKind}
 use Rattle.guide.proofs.Depths.{line-deep}
 use Rattle.guide.specs.meaning.Guide.{guideOf}
 use Rattle.book.specs.meaning.GoodBook.{GoodBook, carrierRule, carrierGroupRule, aroundRule, deeperRule}
@@ -175,11 +176,11 @@ module _ (bs : List ℕ) (good : GoodBook bs) where
         required = eq-eqb (guideOf bs .required x) 1 (c .1 .1 .0);
         once = c .1 .1 .1;
         itself = λ _. refl;
-        held = λ k. absurd (let e = eqb-true (guideOf bs .kind x) 2 k in omega arith);
+        held = λ k. absurd (let e = eqb-true (guideOf bs .kind x) groupKind k in omega arith);
       }
 
   -- 01: "and so is each group around it"
-  group-once : (p : ℕ) → 1 ≤ p → guideOf bs .kind p ≡ 2 → p < x → Inside b s p x → (b .required p ≡ true) × (b .maximum p ≡ 1)
+  group-once : (p : ℕ) → 1 ≤ p → guideOf bs .kind p ≡ groupKind → p < x → Inside b s p x → (b .required p ≡ true) × (b .maximum p ≡ 1)
   unfolding carrierGroupRule aroundRule deeperRule
   group-once p z k h i =
       let w = carrier-within in
@@ -227,7 +228,7 @@ module _ (bs : List ℕ) (good : GoodBook bs) where
         inside = i;
         required = o .0;
         once = o .1;
-        itself = λ n. absurd (true≢false (sym (eq-eqb (guideOf bs .kind p) 2 (a .group)) ∙ n));
+        itself = λ n. absurd (true≢false (sym (eq-eqb (guideOf bs .kind p) groupKind (a .group)) ∙ n));
         held = held-parent p t q w e;
       }
 

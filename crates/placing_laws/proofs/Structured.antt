@@ -7,6 +7,7 @@ use mathlib.Core.List.{List}
 use mathlib.Core.Logic.{_⊎_, inl, inr}
 use mathlib.Core.Bool.{true, false, true≢false}
 use borrow.Author.Tests.{eq-eqb, ne-eqb, eqb-true}
+use Rattle.guide.specs.meaning.Words.{groupKind, segmentKind}
 use Rattle.guide.specs.meaning.Guide.{guideOf}
 use Rattle.book.specs.meaning.Rule.{Holds}
 use Rattle.book.specs.meaning.GoodBook.{GoodBook, frameRule, triggerRule, fallRule}
@@ -39,8 +40,8 @@ pub record Structured (b : Plan) : Type 0 where
   pub room : (l : ℕ) → 1 ≤ l → l ≤ b .lines → 1 ≤ b .maximum l
 
 module _ (bs : List ℕ) (good : GoodBook bs) where
-  not-group : (l : ℕ) → guideOf bs .kind l ≡ 1 → planIn bs .group l ≡ false
-  not-group l e = ne-eqb (guideOf bs .kind l) 2 (λ z. let a : 1 ≡ 2 = sym e ∙ z in omega arith)
+  not-group : (l : ℕ) → guideOf bs .kind l ≡ segmentKind → planIn bs .group l ≡ false
+  not-group l e = ne-eqb (guideOf bs .kind l) groupKind (λ z. let a : 1 ≡ 2 = sym e ∙ z in omega arith)
 
   frame : (l tag : ℕ) → Holds (frameRule (guideOf bs) l tag) → Frame (planIn bs) l
   unfolding frameRule
@@ -52,7 +53,7 @@ module _ (bs : List ℕ) (good : GoodBook bs) where
         once = h .1 .1 .1 .1 .0;
       }
 
-  trigger-of : (g : ℕ) → 1 ≤ g → g ≤ guideOf bs .lines → guideOf bs .kind g ≡ 2 → Trigger (planIn bs) g
+  trigger-of : (g : ℕ) → 1 ≤ g → g ≤ guideOf bs .lines → guideOf bs .kind g ≡ groupKind → Trigger (planIn bs) g
   unfolding triggerRule
   trigger-of g a c k =
       let h = group-trigger bs good g a c k in
@@ -68,9 +69,9 @@ module _ (bs : List ℕ) (good : GoodBook bs) where
   unfolding fallRule
   falls-of l a c k = go (line-kind bs good l a (omega arith))
     where
-      go : (guideOf bs .kind l ≡ 1) ⊎ (guideOf bs .kind l ≡ 2) → guideOf bs .depth (suc l) ≤ guideOf bs .depth l
+      go : (guideOf bs .kind l ≡ segmentKind) ⊎ (guideOf bs .kind l ≡ groupKind) → guideOf bs .depth (suc l) ≤ guideOf bs .depth l
       go (inl e) = subst (λ (x : ℕ). guideOf bs .depth x ≤ guideOf bs .depth l) (add-one l) (line-falls bs good l a (omega arith) (e, omega arith))
-      go (inr e) = absurd (true≢false (sym (eq-eqb (guideOf bs .kind l) 2 e) ∙ k))
+      go (inr e) = absurd (true≢false (sym (eq-eqb (guideOf bs .kind l) groupKind e) ∙ k))
 
   pub structured : Structured (planIn bs)
   structured =
@@ -79,7 +80,7 @@ module _ (bs : List ℕ) (good : GoodBook bs) where
         first = frame 1 _ (first-frame bs good);
         last = frame (guideOf bs .lines) _ (last-frame bs good);
         deepest = λ l a c. line-depth bs good l a c;
-        trigger = λ g a c k. trigger-of g a c (eqb-true (guideOf bs .kind g) 2 k);
+        trigger = λ g a c k. trigger-of g a c (eqb-true (guideOf bs .kind g) groupKind k);
         falls = falls-of;
         room = λ l a c. line-maximum bs good l a c .0;
       }

@@ -11,6 +11,7 @@ use mathlib.Core.List.{List, [], _∷_, map}
 use mathlib.Core.Bool.{Bool, true, false, not, cond, _&&_, _||_, true≢false, false≢true}
 use lib.Dec.{eqb}
 use borrow.Author.Tests.{eq-eqb, ne-eqb}
+use Rattle.guide.specs.meaning.Words.{anyJoint, mustIfMode}
 use Rattle.guide.specs.meaning.Guide.{guideOf}
 use Rattle.book.specs.meaning.GoodBook.{GoodBook}
 use Rattle.guide.specs.meaning.View.{Row, rowOf, inUse}
@@ -189,7 +190,7 @@ abbrev pub breaks : Row → Bool → Assignment → Bool
 breaks w present a = isBroken (w .mode) present (expression w a)
 
 pub breaks-looks : (w : Row) (present : Bool) → LooksAt (conditionsOf w) (breaks w present)
-breaks-looks w present a b h = ap (isBroken (w .mode) present) (holds-looks (eqb (w .joint) 2) (inUse (w .conditions)) a b h)
+breaks-looks w present a b h = ap (isBroken (w .mode) present) (holds-looks (eqb (w .joint) anyJoint) (inUse (w .conditions)) a b h)
 
 abbrev pub lowly : List ℕ → Row → Bool → Bool
 lowly cs w present = isBroken (w .mode) present (readRow cs false w)
@@ -199,11 +200,11 @@ highly cs w present = isBroken (w .mode) present (readRow cs true w)
 
 pub some-breaks : (cs : List ℕ) (most : ℕ) (w : Row) (present : Bool) → Rises most w
     → some cs (conditionsOf w) (breaks w present) ≡ (lowly cs w present || highly cs w present)
-some-breaks cs most w present r = some-reading cs (eqb (w .joint) 2) (inUse (w .conditions)) 0 most r (isBroken (w .mode) present)
+some-breaks cs most w present r = some-reading cs (eqb (w .joint) anyJoint) (inUse (w .conditions)) 0 most r (isBroken (w .mode) present)
 
 pub every-breaks : (cs : List ℕ) (most : ℕ) (w : Row) (present : Bool) → Rises most w
     → every cs (conditionsOf w) (breaks w present) ≡ (lowly cs w present && highly cs w present)
-every-breaks cs most w present r = every-reading cs (eqb (w .joint) 2) (inUse (w .conditions)) 0 most r (isBroken (w .mode) present)
+every-breaks cs most w present r = every-reading cs (eqb (w .joint) anyJoint) (inUse (w .conditions)) 0 most r (isBroken (w .mode) present)
 
 -- the law
 pub record ExactOutcome (cs : List ℕ) (w : Row) (present : Bool) : Type 0 where
@@ -230,14 +231,14 @@ module _ (cs : List ℕ) (most : ℕ) (w : Row) (present : Bool) (rises : Rises 
   reached guess = (
     choosing guess cs (inUse (w .conditions)),
     choosing-filling guess cs (inUse (w .conditions)),
-    ap (isBroken (w .mode) present) (choosing-reads guess cs (eqb (w .joint) 2) (inUse (w .conditions)) 0 most rises),
+    ap (isBroken (w .mode) present) (choosing-reads guess cs (eqb (w .joint) anyJoint) (inUse (w .conditions)) 0 most rises),
   )
 
   -- and no other is
   between : (v : Bool) → lowly cs w present ≡ v → highly cs w present ≡ v → (a : Assignment) → Filling cs a → breaks w present a ≡ v
   between v x y a h =
       ⊎-elim (λ e. ap (isBroken (w .mode) present) e ∙ x) (λ e. ap (isBroken (w .mode) present) e ∙ y)
-      (either-reading (eqb (w .joint) 2) cs (inUse (w .conditions)) a h)
+      (either-reading (eqb (w .joint) anyJoint) cs (inUse (w .conditions)) a h)
 
   pub exact-outcome : ExactOutcome cs w present
   exact-outcome = go (lowly cs w present) (highly cs w present) refl refl
@@ -290,7 +291,7 @@ module _ (cs : List ℕ) (most : ℕ) (w : Row) (present : Bool) (rises : Rises 
 module _ (book : List ℕ) (good : GoodBook book) (p l : ℕ) (known : p < guideOf book .identifiers) (from : 1 ≤ l) (to : l ≤ guideOf book .lines) where
   pub row-rises : Rises (guideOf book .conditions) (rowOf (guideOf book) p l)
   row-rises =
-      dite (decLt (rowOf (guideOf book) p l .mode) 3)
+      dite (decLt (rowOf (guideOf book) p l .mode) mustIfMode)
       (λ m. let e = plain-row book good p l known from to (omega arith) in
       subst (λ (xs : List ℕ). NumbersRise 0 (guideOf book .conditions) (inUse xs)) (sym (e .1)) tt)
       (λ m. row-expression book good p l known from to (omega arith) .rising)

@@ -8,6 +8,7 @@ use mathlib.Core.List.{List, [], _∷_, _++_, map}
 use mathlib.Core.Bool.{Bool, true, false, not, cond, _&&_, _||_, true≢false, false≢true}
 use lib.Dec.{eqb}
 use borrow.Author.Tests.{eq-eqb, ne-eqb, eqb-true, eqb-false}
+use Rattle.guide.specs.meaning.Words.{mustMode}
 use Rattle.reading.specs.meaning.Service.{All}
 use Rattle.guide.specs.meaning.Guide.{Guide, guideOf}
 use Rattle.book.specs.meaning.GoodBook.{GoodBook}
@@ -98,7 +99,7 @@ some-never cs ks test h = go (some cs ks test) refl
 must-present : (mode : ℕ) (present value : Bool) → mode ≡ 1 → present ≡ true → isBroken mode present value ≡ false
 must-present mode present value m h = rw (m, h)
 
-required-found : (g : Guide) (p : ℕ) (cs : List ℕ) (l : ℕ) (hs ps ts : List ℕ) (es : List Entry) → rowOf g p l .mode ≡ 1
+required-found : (g : Guide) (p : ℕ) (cs : List ℕ) (l : ℕ) (hs ps ts : List ℕ) (es : List Entry) → rowOf g p l .mode ≡ mustMode
     → All (λ t. firstOf (planOf g) l t hs ps ≡ 0 → ⊥) ts → foundAmong cs (entriesIn g p l hs ps ts ++ es) ≡ foundAmong cs es
 unfolding foundAmong entriesIn
 required-found g p cs l hs ps [] es m h = refl
