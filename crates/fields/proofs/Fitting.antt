@@ -7,6 +7,7 @@ use mathlib.Core.Bool.{Bool, true, false, cond, not, _&&_, _||_}
 use lib.Dec.{eqb, leb}
 use lib.ListN.{length}
 use borrow.Author.Tests.{eq-eqb, ne-eqb, le-leb, lt-leb}
+use Rattle.guide.specs.meaning.Words.{emptyPresence, mustPresence, numberForm, withElementPresence}
 use Rattle.guide.specs.meaning.Guide.{Guide}
 use Rattle.guide.specs.method.Codes.{isAnyCode}
 use Rattle.reading.specs.meaning.Component.{valueOf}
@@ -84,42 +85,42 @@ module _ (g : Guide) (f : ℕ) where
   module _ (s : Service) (x : Raw) (n : ℕ) (e : n ≡ g .form f) where
     pub by-number : (r : Bool) → n ≡ 2 → r ≡ fitsNumber s g f x → r ≡ fits s g f x
     unfolding fits
-    by-number r z k = k ∙ sym (ap (λ (t : Bool). cond t (fitsNumber s g f x) (fitsText s g f x)) (eq-eqb (g .form f) 2 (sym e ∙ z)))
+    by-number r z k = k ∙ sym (ap (λ (t : Bool). cond t (fitsNumber s g f x) (fitsText s g f x)) (eq-eqb (g .form f) numberForm (sym e ∙ z)))
 
     pub by-text : (r : Bool) → (n ≡ 2 → ⊥) → r ≡ fitsText s g f x → r ≡ fits s g f x
     unfolding fits
-    by-text r z k = k ∙ sym (ap (λ (t : Bool). cond t (fitsNumber s g f x) (fitsText s g f x)) (ne-eqb (g .form f) 2 (λ y. z (e ∙ y))))
+    by-text r z k = k ∙ sym (ap (λ (t : Bool). cond t (fitsNumber s g f x) (fitsText s g f x)) (ne-eqb (g .form f) numberForm (λ y. z (e ∙ y))))
 
   -- ---- presence
 
   module _ (n : ℕ) (e : n ≡ g .presence f) (some : Bool) where
     pub missing-one : n ≡ 1 → true ≡ isMissing g some f
     unfolding isMissing
-    missing-one z = sym (ap (λ (t : Bool). t || (eqb (g .presence f) 3 && some)) (eq-eqb (g .presence f) 1 (sym e ∙ z)))
+    missing-one z = sym (ap (λ (t : Bool). t || (eqb (g .presence f) withElementPresence && some)) (eq-eqb (g .presence f) mustPresence (sym e ∙ z)))
 
     pub missing-three : (n ≡ 1 → ⊥) → n ≡ 3 → some ≡ isMissing g some f
     unfolding isMissing
     missing-three y z =
-        sym (ap₂ (λ (t u : Bool). t || (u && some)) (ne-eqb (g .presence f) 1 (λ k. y (e ∙ k))) (eq-eqb (g .presence f) 3 (sym e ∙ z)))
+        sym (ap₂ (λ (t u : Bool). t || (u && some)) (ne-eqb (g .presence f) mustPresence (λ k. y (e ∙ k))) (eq-eqb (g .presence f) withElementPresence (sym e ∙ z)))
 
     pub missing-not : (n ≡ 1 → ⊥) → (n ≡ 3 → ⊥) → false ≡ isMissing g some f
     unfolding isMissing
     missing-not y z =
-        sym (ap₂ (λ (t u : Bool). t || (u && some)) (ne-eqb (g .presence f) 1 (λ k. y (e ∙ k))) (ne-eqb (g .presence f) 3 (λ k. z (e ∙ k))))
+        sym (ap₂ (λ (t u : Bool). t || (u && some)) (ne-eqb (g .presence f) mustPresence (λ k. y (e ∙ k))) (ne-eqb (g .presence f) withElementPresence (λ k. z (e ∙ k))))
 
   module _ (s : Service) (some : Bool) (x : Raw) where
     pub broken-empty : (r : Bool) → length x ≡ 0 → r ≡ isMissing g some f → r ≡ isBroken s g some f x
     unfolding isBroken
     broken-empty r h k =
-        k ∙ sym (ap (λ (t : Bool). cond t (eqb (g .presence f) 0 || not (fits s g f x)) (isMissing g some f)) (bytes-none x h))
+        k ∙ sym (ap (λ (t : Bool). cond t (eqb (g .presence f) emptyPresence || not (fits s g f x)) (isMissing g some f)) (bytes-none x h))
 
-    broken-full : (length x ≡ 0 → ⊥) → isBroken s g some f x ≡ (eqb (g .presence f) 0 || not (fits s g f x))
+    broken-full : (length x ≡ 0 → ⊥) → isBroken s g some f x ≡ (eqb (g .presence f) emptyPresence || not (fits s g f x))
     unfolding isBroken
-    broken-full h = ap (λ (t : Bool). cond t (eqb (g .presence f) 0 || not (fits s g f x)) (isMissing g some f)) (bytes-some x h)
+    broken-full h = ap (λ (t : Bool). cond t (eqb (g .presence f) emptyPresence || not (fits s g f x)) (isMissing g some f)) (bytes-some x h)
 
     module _ (h : length x ≡ 0 → ⊥) (n : ℕ) (e : n ≡ g .presence f) where
       pub broken-zero : n ≡ 0 → true ≡ isBroken s g some f x
-      broken-zero z = sym (broken-full h ∙ ap (λ (t : Bool). t || not (fits s g f x)) (eq-eqb (g .presence f) 0 (sym e ∙ z)))
+      broken-zero z = sym (broken-full h ∙ ap (λ (t : Bool). t || not (fits s g f x)) (eq-eqb (g .presence f) emptyPresence (sym e ∙ z)))
 
       pub broken-unfit : (r : Bool) → (n ≡ 0 → ⊥) → r ≡ fits s g f x → not r ≡ isBroken s g some f x
-      broken-unfit r z k = ap not k ∙ sym (broken-full h ∙ ap (λ (t : Bool). t || not (fits s g f x)) (ne-eqb (g .presence f) 0 (λ y. z (e ∙ y))))
+      broken-unfit r z k = ap not k ∙ sym (broken-full h ∙ ap (λ (t : Bool). t || not (fits s g f x)) (ne-eqb (g .presence f) emptyPresence (λ y. z (e ∙ y))))

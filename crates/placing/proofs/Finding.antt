@@ -11,6 +11,7 @@ use lib.Dec.{eqb, ltb}
 use lib.ListN.{length, getD, set}
 use lib.Seq.{getD-set-same, getD-set-other}
 use borrow.Author.Tests.{eq-eqb, ne-eqb, eqb-true, eqb-false, lt-ltb, le-ltb, ltb-true, ltb-false}
+use Rattle.guide.specs.meaning.Words.{groupKind}
 use Rattle.guide.specs.meaning.Guide.{Guide}
 use Rattle.reading.specs.method.Machine.{seekFrom}
 use Rattle.reading.specs.method.Part.{bytesIn}
@@ -52,26 +53,26 @@ module _ (b : Guide) where
   -- ---- the tag of a line
 
   pub group-tag : (l k : ℕ) → k ≡ b .kind l → k ≡ 2 → 2 ^ 24 ≡ homeTag b l
-  group-tag l k e z = sym (simp (eq-eqb (b .kind l) 2 (sym e ∙ z)))
+  group-tag l k e z = sym (simp (eq-eqb (b .kind l) groupKind (sym e ∙ z)))
 
   pub line-tag : (l k t : ℕ) → k ≡ b .kind l → (k ≡ 2 → ⊥) → t ≡ b .tag l → t ≡ homeTag b l
-  line-tag l k t e n h = h ∙ sym (simp (ne-eqb (b .kind l) 2 (λ z. n (e ∙ z))))
+  line-tag l k t e n h = h ∙ sym (simp (ne-eqb (b .kind l) groupKind (λ z. n (e ∙ z))))
 
   -- a line fits that has the tag and is selected
   module _ (s : Service) (bs : List ℕ) (at t : ℕ) (tag : t ≡ tagAt bs at) (three : t < 2 ^ 24) where
     pub fits-not : (l x : ℕ) → x ≡ homeTag b l → (x ≡ t → ⊥) → fitsAt s b bs at l ≡ false
     unfolding fitsAt
-    fits-not l x e n = go (eqb (b .kind l) 2) refl
+    fits-not l x e n = go (eqb (b .kind l) groupKind) refl
       where
-        go : (v : Bool) → eqb (b .kind l) 2 ≡ v → (eqb (b .tag l) (tagAt bs at) && (not (eqb (b .kind l) 2) && isSelectedAt s b bs at l)) ≡ false
+        go : (v : Bool) → eqb (b .kind l) groupKind ≡ v → (eqb (b .tag l) (tagAt bs at) && (not (eqb (b .kind l) groupKind) && isSelectedAt s b bs at l)) ≡ false
         go true k = simp (k, and-false)
         go false k = simp (ne-eqb (b .tag l) (tagAt bs at) (λ z. n (e ∙ ap (λ (v : Bool). cond v (2 ^ 24) (b .tag l)) k ∙ z ∙ sym tag)))
 
     pub fits-selected : (l x : ℕ) (q : Bool) → x ≡ homeTag b l → x ≡ t → q ≡ isSelectedAt s b bs at l → fitsAt s b bs at l ≡ q
     unfolding fitsAt
-    fits-selected l x q e h i = go (eqb (b .kind l) 2) refl
+    fits-selected l x q e h i = go (eqb (b .kind l) groupKind) refl
       where
-        go : (v : Bool) → eqb (b .kind l) 2 ≡ v → (eqb (b .tag l) (tagAt bs at) && (not (eqb (b .kind l) 2) && isSelectedAt s b bs at l)) ≡ q
+        go : (v : Bool) → eqb (b .kind l) groupKind ≡ v → (eqb (b .tag l) (tagAt bs at) && (not (eqb (b .kind l) groupKind) && isSelectedAt s b bs at l)) ≡ q
         go true k = absurd (let z : t ≡ 2 ^ 24 = sym h ∙ e ∙ ap (λ (v : Bool). cond v (2 ^ 24) (b .tag l)) k in omega arith)
         go false k = simp (k, eq-eqb (b .tag l) (tagAt bs at) (sym (ap (λ (v : Bool). cond v (2 ^ 24) (b .tag l)) k) ∙ sym e ∙ h ∙ tag)) (sym i)
 
@@ -190,9 +191,9 @@ module _ (b : Guide) where
               (fits-selected b s bs at t tag three y (getD tags y 0) true (all .same y (omega arith)) (eqb-true (getD tags y 0) t k) q)
           go y m q (none f) = absurd (m refl)
 
-  no-group : (s : Service) (bs : List ℕ) (at l : ℕ) → fitsAt s b bs at l ≡ true → eqb (b .kind l) 2 ≡ false
+  no-group : (s : Service) (bs : List ℕ) (at l : ℕ) → fitsAt s b bs at l ≡ true → eqb (b .kind l) groupKind ≡ false
   unfolding fitsAt
-  no-group s bs at l k = denied (eqb (b .kind l) 2) (left (not (eqb (b .kind l) 2)) _ (right (eqb (b .tag l) (tagAt bs at)) _ k))
+  no-group s bs at l k = denied (eqb (b .kind l) groupKind) (left (not (eqb (b .kind l) groupKind)) _ (right (eqb (b .tag l) (tagAt bs at)) _ k))
 
   -- a home is a segment line of the book
   pub home-line : (s : Service) (bs : List ℕ) (at h : ℕ) → h ≡ homeAt s b bs at → (h ≡ 0 → ⊥) → SegmentLine (planOf b) h
