@@ -57,7 +57,10 @@ returns-3 c =
     let every = c .before .before .before .before .before .before .before .every in
     let lines = c .before .before .before .before .before .before .before .before .lines in
     let args = c .before .before .before .before .before .before .before .before .before .before .args in
-    let g = guideOf (args .book .now) in goes-on _ _ _ (sym (asked (lineRule g) 1 (every .ensures) (lines .ensures .0)) ∙ not-false _ (if1 .left)) (goes-on _ _ _ (sym (asked (codeRule g) 0 (every2 .ensures) (codes .ensures .0)) ∙ not-false _ (if2 .left)) (fails-here _ _ (sym (asked (fieldRule g) 0 (c .before .every3 .ensures) (fields .ensures .0)) ∙ not-true _ (c .if3 .taken))))
+    let g = guideOf (args .book .now) in
+    goes-on _ _ _ (sym (asked (lineRule g) 1 (every .ensures) (lines .ensures .0)) ∙ not-false _ (if1 .left))
+    (goes-on _ _ _ (sym (asked (codeRule g) 0 (every2 .ensures) (codes .ensures .0)) ∙ not-false _ (if2 .left))
+    (fails-here _ _ (sym (asked (fieldRule g) 0 (c .before .every3 .ensures) (fields .ensures .0)) ∙ not-true _ (c .if3 .taken))))
 
 identifiers-requires : tie.Need-identifiers-requires
 identifiers-requires c κs = search needs
@@ -81,7 +84,11 @@ returns-4 c =
     let every = c .before .before .before .before .before .before .before .before .before .before .every in
     let lines = c .before .before .before .before .before .before .before .before .before .before .before .lines in
     let args = c .before .before .before .before .before .before .before .before .before .before .before .before .before .args in
-    let g = guideOf (args .book .now) in goes-on _ _ _ (sym (asked (lineRule g) 1 (every .ensures) (lines .ensures .0)) ∙ not-false _ (if1 .left)) (goes-on _ _ _ (sym (asked (codeRule g) 0 (every2 .ensures) (codes .ensures .0)) ∙ not-false _ (if2 .left)) (goes-on _ _ _ (sym (asked (fieldRule g) 0 (every3 .ensures) (fields .ensures .0)) ∙ not-false _ (if3 .left)) (fails-here _ _ (sym (asked (identifierRule g) 0 (c .before .every4 .ensures) (identifiers .ensures .0)) ∙ not-true _ (c .if4 .taken)))))
+    let g = guideOf (args .book .now) in
+    goes-on _ _ _ (sym (asked (lineRule g) 1 (every .ensures) (lines .ensures .0)) ∙ not-false _ (if1 .left))
+    (goes-on _ _ _ (sym (asked (codeRule g) 0 (every2 .ensures) (codes .ensures .0)) ∙ not-false _ (if2 .left))
+    (goes-on _ _ _ (sym (asked (fieldRule g) 0 (every3 .ensures) (fields .ensures .0)) ∙ not-false _ (if3 .left))
+    (fails-here _ _ (sym (asked (identifierRule g) 0 (c .before .every4 .ensures) (identifiers .ensures .0)) ∙ not-true _ (c .if4 .taken)))))
 
 identifiers-requires-2 : tie.Need-identifiers-requires-2
 identifiers-requires-2 c κs = search needs
@@ -116,7 +123,12 @@ returns-5 c =
     let every = c .before .before .before .before .before .before .before .before .before .before .before .before .before .every in
     let lines = c .before .before .before .before .before .before .before .before .before .before .before .before .before .before .lines in
     let args = c .before .before .before .before .before .before .before .before .before .before .before .before .before .before .before .before .args in
-    let g = guideOf (args .book .now) in goes-on _ _ _ (sym (asked (lineRule g) 1 (every .ensures) (lines .ensures .0)) ∙ not-false _ (if1 .left)) (goes-on _ _ _ (sym (asked (codeRule g) 0 (every2 .ensures) (codes .ensures .0)) ∙ not-false _ (if2 .left)) (goes-on _ _ _ (sym (asked (fieldRule g) 0 (every3 .ensures) (fields .ensures .0)) ∙ not-false _ (if3 .left)) (goes-on _ _ _ (sym (asked (identifierRule g) 0 (every4 .ensures) (identifiers .ensures .0)) ∙ not-false _ (if4 .left)) (asked (rowRule g) 0 (c .every5 .ensures) (ap₂ _*_ (identifiers2 .ensures .0) (c .before .lines2 .ensures .0))))))
+    let g = guideOf (args .book .now) in
+    goes-on _ _ _ (sym (asked (lineRule g) 1 (every .ensures) (lines .ensures .0)) ∙ not-false _ (if1 .left))
+    (goes-on _ _ _ (sym (asked (codeRule g) 0 (every2 .ensures) (codes .ensures .0)) ∙ not-false _ (if2 .left))
+    (goes-on _ _ _ (sym (asked (fieldRule g) 0 (every3 .ensures) (fields .ensures .0)) ∙ not-false _ (if3 .left))
+    (goes-on _ _ _ (sym (asked (identifierRule g) 0 (every4 .ensures) (identifiers .ensures .0)) ∙ not-false _ (if4 .left))
+    (asked (rowRule g) 0 (c .every5 .ensures) (ap₂ _*_ (identifiers2 .ensures .0) (c .before .lines2 .ensures .0))))))
 
 pub records-are-good-spec : {M : Type 1} → statement M
 records-are-good-spec = tie.close (tie.spec lines-requires every-requires returns codes-requires every-requires-2 returns-2 fields-requires every-requires-3 returns-3 identifiers-requires every-requires-4 returns-4 identifiers-requires-2 lines-requires-2 mul-rows every-requires-5 returns-5)

@@ -55,7 +55,10 @@ returns c =
     let component = c .before .before .before .before .before .before .before .before .before .component in
     let is-between = c .before .before .before .before .before .before .before .before .before .before .is-between in
     let element = c .before .before .before .before .before .before .before .before .before .before .before .element in
-    both (both (lies-between 1 255 (is-between .ensures) (element .ensures .0)) (both (lies-between 1 255 (is-between2 .ensures) (component .ensures .0)) (at-most withElementPresence (presence .ensures .0)))) (both (both (either (is textForm (form .ensures .0)) (is numberForm (form .ensures .0))) (both (at-least 1 (longest .ensures .0)) (is 0 (field-end .ensures .0)))) (in-range (c .is-range .ensures) (first-value .ensures .0) (value-count .ensures .0) (c .before .codes .ensures .0)))
+    both (both (lies-between 1 255 (is-between .ensures) (element .ensures .0))
+    (both (lies-between 1 255 (is-between2 .ensures) (component .ensures .0)) (at-most withElementPresence (presence .ensures .0))))
+    (both (both (either (is textForm (form .ensures .0)) (is numberForm (form .ensures .0)))
+    (both (at-least 1 (longest .ensures .0)) (is 0 (field-end .ensures .0)))) (in-range (c .is-range .ensures) (first-value .ensures .0) (value-count .ensures .0) (c .before .codes .ensures .0)))
 
 pub field-is-good-spec : {M : Type 1} → statement M
 field-is-good-spec = tie.close (tie.spec element-requires is-between-requires component-requires is-between-requires-2 presence-requires form-requires longest-requires field-end-requires first-value-requires value-count-requires codes-requires is-range-requires returns)

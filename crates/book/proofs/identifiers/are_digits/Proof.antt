@@ -44,7 +44,10 @@ returns c =
     let is-digit = c .before .before .before .before .before .before .before .before .is-digit in
     let identifier-byte2 = c .before .before .before .before .before .before .before .identifier-byte2 in
     let identifier-byte = c .before .before .before .before .before .before .before .before .before .identifier-byte in
-    both (lies-between 0x30 0x39 (is-digit .ensures) (identifier-byte .ensures .0)) (both (lies-between 0x30 0x39 (is-digit2 .ensures) (identifier-byte2 .ensures .0)) (both (lies-between 0x30 0x39 (is-digit3 .ensures) (identifier-byte3 .ensures .0)) (both (lies-between 0x30 0x39 (is-digit4 .ensures) (identifier-byte4 .ensures .0)) (lies-between 0x30 0x39 (c .is-digit5 .ensures) (c .before .identifier-byte5 .ensures .0)))))
+    both (lies-between 0x30 0x39 (is-digit .ensures) (identifier-byte .ensures .0))
+    (both (lies-between 0x30 0x39 (is-digit2 .ensures) (identifier-byte2 .ensures .0))
+    (both (lies-between 0x30 0x39 (is-digit3 .ensures) (identifier-byte3 .ensures .0))
+    (both (lies-between 0x30 0x39 (is-digit4 .ensures) (identifier-byte4 .ensures .0)) (lies-between 0x30 0x39 (c .is-digit5 .ensures) (c .before .identifier-byte5 .ensures .0)))))
 
 pub are-digits-spec : {M : Type 1} → statement M
 are-digits-spec = tie.close (tie.spec identifier-byte-requires is-digit-requires identifier-byte-requires-2 is-digit-requires-2 identifier-byte-requires-3 is-digit-requires-3 identifier-byte-requires-4 is-digit-requires-4 identifier-byte-requires-5 is-digit-requires-5 returns)

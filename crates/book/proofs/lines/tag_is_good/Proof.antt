@@ -35,7 +35,8 @@ returns c =
     let tag-byte-is-good = c .before .before .before .before .tag-byte-is-good in
     let tag-byte = c .before .before .before .before .before .tag-byte in
     let args = c .before .before .before .before .before .before .before .args in
-    both (tag-byte-is-good .ensures ∙ ap (λ (x : ℕ). run (tagByteRule (guideOf (args .book .now)) (args .line) x)) (tag-byte .ensures .0)) (both (tag-byte-is-good2 .ensures ∙ ap (λ (x : ℕ). run (tagByteRule (guideOf (args .book .now)) (args .line) x)) (tag-byte2 .ensures .0)) (c .tag-byte-is-good3 .ensures ∙ ap (λ (x : ℕ). run (tagByteRule (guideOf (args .book .now)) (args .line) x)) (c .before .tag-byte3 .ensures .0)))
+    both (tag-byte-is-good .ensures ∙ ap (λ (x : ℕ). run (tagByteRule (guideOf (args .book .now)) (args .line) x)) (tag-byte .ensures .0))
+    (both (tag-byte-is-good2 .ensures ∙ ap (λ (x : ℕ). run (tagByteRule (guideOf (args .book .now)) (args .line) x)) (tag-byte2 .ensures .0)) (c .tag-byte-is-good3 .ensures ∙ ap (λ (x : ℕ). run (tagByteRule (guideOf (args .book .now)) (args .line) x)) (c .before .tag-byte3 .ensures .0)))
 
 pub tag-is-good-spec : {M : Type 1} → statement M
 tag-is-good-spec = tie.close (tie.spec tag-byte-requires tag-byte-is-good-requires tag-byte-requires-2 tag-byte-is-good-requires-2 tag-byte-requires-3 tag-byte-is-good-requires-3 returns)

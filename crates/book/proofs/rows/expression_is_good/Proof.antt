@@ -44,7 +44,17 @@ returns c =
     let condition = c .before .before .before .before .before .before .condition in
     let joint = c .before .before .before .before .before .before .before .joint in
     let args = c .before .before .before .before .before .before .before .before .before .args in
-    let g = guideOf (args .book .now) in let a = condition .ensures .0 in let b = condition2 .ensures .0 in let d = condition3 .ensures .0 in let j = joint .ensures .0 in both (is-literal .ensures ∙ ap (λ (x : ℕ). run (literalRule g x)) a) (both (is-next-literal .ensures ∙ ap₂ (λ (x y : ℕ). run (nextLiteralRule g x y)) a b) (both (c .before .is-next-literal2 .ensures ∙ ap₂ (λ (x y : ℕ). run (nextLiteralRule g x y)) b d) (both (either (is allJoint j) (is anyJoint j)) (if-then (c .implies .ensures) (is 0 b) (both (is 0 d) (is allJoint j))))))
+    let g = guideOf (args .book .now) in
+    let a = condition .ensures .0 in
+    let b = condition2 .ensures .0 in
+    let d = condition3 .ensures .0 in
+    let j = joint .ensures .0 in
+    both (is-literal .ensures ∙ ap (λ (x : ℕ). run (literalRule g x)) a)
+    (both (is-next-literal .ensures ∙ ap₂ (λ (x y : ℕ). run (nextLiteralRule g x y)) a b)
+    (both (c .before .is-next-literal2 .ensures ∙ ap₂ (λ (x y : ℕ). run (nextLiteralRule g x y)) b d)
+    (both (either (is allJoint j) (is anyJoint j))
+    (if-then (c .implies .ensures) (is 0 b)
+    (both (is 0 d) (is allJoint j))))))
 
 pub expression-is-good-spec : {M : Type 1} → statement M
 expression-is-good-spec = tie.close (tie.spec joint-requires condition-requires condition-requires-2 condition-requires-3 is-literal-requires is-next-literal-requires is-next-literal-requires-2 implies-requires returns)

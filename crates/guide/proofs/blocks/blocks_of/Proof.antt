@@ -81,7 +81,12 @@ returns c =
     let identifiers-there = c .before .before .before .before .before .before .before .before .identifiers in
     let lines = c .before .before .before .before .before .before .before .before .before .lines in
     let edition-of = c .before .before .before .before .before .before .before .before .before .before .edition-of in
-    let e = edition-of .ensures in let codes = behind .ensures .0 ∙ places (e .header) (e .line) (lines .ensures .0) in let fields = behind2 .ensures .0 ∙ places codes (e .code) (codes-there .ensures .0) in let identifiers = behind3 .ensures .0 ∙ places fields (e .field) (fields-there .ensures .0) in let rows = c .before .behind4 .ensures .0 ∙ places identifiers (e .identifier) (identifiers-there .ensures .0) in record { codes = codes; fields = fields; identifiers = identifiers; rows = rows; end = c .behind5 .ensures .0 ∙ places rows (e .row) (ap₂ _*_ (identifiers-there .ensures .0) (lines .ensures .0)) }
+    let e = edition-of .ensures in
+    let codes = behind .ensures .0 ∙ places (e .header) (e .line) (lines .ensures .0) in
+    let fields = behind2 .ensures .0 ∙ places codes (e .code) (codes-there .ensures .0) in
+    let identifiers = behind3 .ensures .0 ∙ places fields (e .field) (fields-there .ensures .0) in
+    let rows = c .before .behind4 .ensures .0 ∙ places identifiers (e .identifier) (identifiers-there .ensures .0) in
+    record { codes = codes; fields = fields; identifiers = identifiers; rows = rows; end = c .behind5 .ensures .0 ∙ places rows (e .row) (ap₂ _*_ (identifiers-there .ensures .0) (lines .ensures .0)) }
 
 pub blocks-of-spec : {M : Type 1} → statement M
 blocks-of-spec = tie.close (tie.spec edition-of-requires lines-requires cast-lines identifiers-requires cast-count cast-behind behind-requires codes-requires cast-behind-2 behind-requires-2 fields-requires cast-behind-3 behind-requires-3 behind-requires-4 mul-behind behind-requires-5 returns)

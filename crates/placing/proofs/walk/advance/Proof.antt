@@ -48,7 +48,8 @@ returns-2 c =
     let target-of = c .before .before .before .before .before .before .target-of in
     let pre = c .before .before .before .before .before .before .before .before .before .pre in
     let args = c .before .before .before .before .before .before .before .before .before .args in
-    stands-next (planIn (args .book .now)) (args .walk) _ (args .home) _ ((c .refusal2 .ensures) (args .walk) (pre .0)) (advance-no (planIn (args .book .now)) (openLines (args .walk)) (args .home) _ false (target-of .ensures .0) (admits-high (planIn (args .book .now)) (args .walk) _ _ (pre .0) (depth-of .ensures .0) (c .before .if2 .taken)) refl)
+    stands-next (planIn (args .book .now)) (args .walk) _ (args .home) _ ((c .refusal2 .ensures) (args .walk) (pre .0))
+    (advance-no (planIn (args .book .now)) (openLines (args .walk)) (args .home) _ false (target-of .ensures .0) (admits-high (planIn (args .book .now)) (args .walk) _ _ (pre .0) (depth-of .ensures .0) (c .before .if2 .taken)) refl)
 
 level-at-requires : tie.Need-level-at-requires
 level-at-requires c κs = search needs
@@ -68,7 +69,8 @@ returns-3 c =
     let target-of = c .before .before .before .before .before .before .before .before .before .target-of in
     let pre = c .before .before .before .before .before .before .before .before .before .before .before .before .pre in
     let args = c .before .before .before .before .before .before .before .before .before .before .before .before .args in
-    stands-next (planIn (args .book .now)) (args .walk) _ (args .home) _ ((c .refusal3 .ensures) (args .walk) (pre .0)) (advance-no (planIn (args .book .now)) (openLines (args .walk)) (args .home) _ false (target-of .ensures .0) (admits-still (planIn (args .book .now)) (args .walk) _ _ (pre .0) (depth-of .ensures .0) _ _ (if2 .left) (level-at .ensures) (can-move .ensures) (not-true _ (c .before .if3 .taken))) refl)
+    stands-next (planIn (args .book .now)) (args .walk) _ (args .home) _ ((c .refusal3 .ensures) (args .walk) (pre .0))
+    (advance-no (planIn (args .book .now)) (openLines (args .walk)) (args .home) _ false (target-of .ensures .0) (admits-still (planIn (args .book .now)) (args .walk) _ _ (pre .0) (depth-of .ensures .0) _ _ (if2 .left) (level-at .ensures) (can-move .ensures) (not-true _ (c .before .if3 .taken))) refl)
 
 add-closes-below : tie.Need-add-closes-below
 add-closes-below c = search needs
@@ -90,7 +92,10 @@ returns-4 c =
     let target-of = c .before .before .before .before .before .before .before .before .before .before .before .target-of in
     let pre = c .before .before .before .before .before .before .before .before .before .before .before .before .before .before .pre in
     let args = c .before .before .before .before .before .before .before .before .before .before .before .before .before .before .args in
-    stands-next (planIn (args .book .now)) (args .walk) _ (args .home) _ ((c .refusal4 .ensures) (args .walk) (pre .0)) (advance-no (planIn (args .book .now)) (openLines (args .walk)) (args .home) _ _ (target-of .ensures .0) (admits-shut (planIn (args .book .now)) (args .walk) _ _ (pre .0) (depth-of .ensures .0) _ _ _ (if2 .left) (level-at .ensures) (can-move .ensures) (not-false _ (if3 .left)) (closes-below .ensures)) (not-true _ (c .before .if4 .taken)))
+    stands-next (planIn (args .book .now)) (args .walk) _ (args .home) _ ((c .refusal4 .ensures) (args .walk) (pre .0))
+    (advance-no (planIn (args .book .now)) (openLines (args .walk)) (args .home) _ _
+    (target-of .ensures .0) (admits-shut (planIn (args .book .now)) (args .walk) _ _ (pre .0) (depth-of .ensures .0) _ _ _ (if2 .left) (level-at .ensures) (can-move .ensures) (not-false _ (if3 .left)) (closes-below .ensures))
+    (not-true _ (c .before .if4 .taken)))
 
 raise-requires : tie.Need-raise-requires
 raise-requires c κs =
@@ -99,7 +104,11 @@ raise-requires c κs =
     let target-of = c .before .before .before .before .before .before .before .before .before .before .target-of in
     let args = c .before .before .before .before .before .before .before .before .before .before .before .before .before .args in
     let shared-slice-known = c .before .before .before .before .before .before .before .before .before .before .before .before .shared-slice-known in
-    λ e. omega (arith, move-room (planIn (args .book .now)) _ _ _ (can-move .ensures) (not-false _ (if3 .left)) e, maximum-small (args .book .now) (λ (k : ℕ). omega (arith, (shared-slice-known .given) k)) (target-of .result))
+    λ e. omega (
+      arith,
+      move-room (planIn (args .book .now)) _ _ _ (can-move .ensures) (not-false _ (if3 .left)) e,
+      maximum-small (args .book .now) (λ (k : ℕ). omega (arith, (shared-slice-known .given) k)) (target-of .result),
+    )
 
 move-to-requires : tie.Need-move-to-requires
 move-to-requires c κs = search needs
@@ -119,7 +128,12 @@ returns-5 c =
     let is-trigger = c .before .before .before .before .before .before .before .before .before .before .before .before .before .is-trigger in
     let pre = c .before .before .before .before .before .before .before .before .before .before .before .before .before .before .before .pre in
     let args = c .before .before .before .before .before .before .before .before .before .before .before .before .before .before .before .args in
-    stands-next (planIn (args .book .now)) (args .walk) _ (args .home) _ ((c .move-to .ensures) (args .walk) (pre .0) (omega (arith, (if2 .left)))) (advance-yes (planIn (args .book .now)) (openLines (args .walk)) _ (args .home) _ _ _ (in-depths (planIn (args .book .now)) (args .home) _ _ _ _ (pre .1) (target-of .ensures .0) (depth-of .ensures .0) (is-trigger .ensures) (depths-for .ensures) (if1 .left)) (target-of .ensures .0) (admits-shut (planIn (args .book .now)) (args .walk) _ _ (pre .0) (depth-of .ensures .0) _ _ _ (if2 .left) (level-at .ensures) (can-move .ensures) (not-false _ (if3 .left)) (closes-below .ensures)) (not-false _ (if4 .left)) (is-trigger .ensures) (ap (λ (x : List Level). x ++ entered (is-trigger .result) (args .home)) (stacked-is (planIn (args .book .now)) (args .walk) _ _ _ _ (depth-of .ensures .0) (if2 .left) (level-at .ensures) (c .before .raise .ensures))))
+    stands-next (planIn (args .book .now)) (args .walk) _ (args .home) _ ((c .move-to .ensures) (args .walk) (pre .0) (omega (arith, (if2 .left))))
+    (advance-yes (planIn (args .book .now)) (openLines (args .walk)) _ (args .home) _ _ _
+    (in-depths (planIn (args .book .now)) (args .home) _ _ _ _ (pre .1) (target-of .ensures .0) (depth-of .ensures .0) (is-trigger .ensures) (depths-for .ensures) (if1 .left))
+    (target-of .ensures .0) (admits-shut (planIn (args .book .now)) (args .walk) _ _ (pre .0) (depth-of .ensures .0) _ _ _ (if2 .left) (level-at .ensures) (can-move .ensures) (not-false _ (if3 .left)) (closes-below .ensures))
+    (not-false _ (if4 .left)) (is-trigger .ensures) (ap (λ (x : List Level). x ++ entered (is-trigger .result) (args .home))
+    (stacked-is (planIn (args .book .now)) (args .walk) _ _ _ _ (depth-of .ensures .0) (if2 .left) (level-at .ensures) (c .before .raise .ensures))))
 
 pub advance-spec : {M : Type 1} → statement M
 advance-spec =
