@@ -18,7 +18,8 @@ use Rattle.reading_laws.proofs.Accepting.{accepts}
 use Rattle.guide.specs.meaning.View.{lineOf}
 use Rattle.placing.specs.meaning.Fitting.{fits, homeOf, homesIn}
 use Rattle.placing.specs.meaning.Answers.{HaveHomes}
-use Rattle.placing.specs.method.Passes.{startsTable, homesTable, parentsTable}
+use Rattle.reading.specs.method.Starts.{startsTable}
+use Rattle.placing.specs.method.Passes.{homesTable, parentsTable}
 use Rattle.placing_laws.proofs.Homes.{home-fits}
 use Rattle.placing_laws.proofs.Messages.{starts-table, homes-table, parents-table}
 use Rattle.judging.specs.meaning.Tables.{isRefusal, Tables, roomOf}

@@ -20,7 +20,7 @@ use Rattle.guide.specs.meaning.Plan.{planIn}
 use Rattle.placing.specs.meaning.Fitting.{homesIn}
 use Rattle.placing.specs.meaning.Placement.{Placed, parentsOf}
 use Rattle.reading.specs.meaning.Starts.{startsIn, startsOf}
-use Rattle.placing.specs.method.Passes.{entry}
+use Rattle.slices.specs.method.Entries.{entry}
 use Rattle.rules_laws.specs.laws.FirstFound.{firstRow}
 use Rattle.rules_laws.proofs.Scanned as rows
 

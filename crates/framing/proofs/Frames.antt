@@ -17,6 +17,7 @@ use Rattle.reading.specs.method.Outcome as outcome
 use Rattle.reading.specs.declared.cursor.End.the-variants.{At, Nowhere}
 use Rattle.reading.proofs.Scanning.{Scanning, scanning-begin, scanning-on, scanning-bad, scanning-empty, scanning-end}
 use Rattle.reading.specs.method.Starts.{startsFrom}
+use Rattle.reading.specs.meaning.Tag.{tagNumber, UNH, UNT}
 use Rattle.reading.proofs.Starts.{starts-found, starts-end}
 use Rattle.framing.specs.method.Stages.{isMisplaced, frameFrom, frameOf}
 use Rattle.framing.specs.method.Survey.{surveyBy, surveyed, misplacedBy, frameBy}
@@ -25,12 +26,12 @@ use Rattle.framing.specs.declared.survey.Frame.the-variants.{Misplaced}
 use Rattle.framing.specs.declared.survey.Survey.the-variants.{BadAt, Segments}
 
 -- the two tests of one segment
-pub misplaced-by-unh : (n k tag : ℕ) (v : Bool) → v ≡ cond (eqb k 1) (not (eqb tag 0x484e55)) (eqb tag 0x484e55) → v ≡ true → true ≡ isMisplaced n k tag
-misplaced-by-unh n k tag v e h = ap (λ (x : Bool). x || cond (eqb k n) (not (eqb tag 0x544e55)) (eqb tag 0x544e55)) (sym h ∙ e)
+pub misplaced-by-unh : (n k tag : ℕ) (v : Bool) → v ≡ cond (eqb k 1) (not (eqb tag (tagNumber UNH))) (eqb tag (tagNumber UNH)) → v ≡ true → true ≡ isMisplaced n k tag
+misplaced-by-unh n k tag v e h = ap (λ (x : Bool). x || cond (eqb k n) (not (eqb tag (tagNumber UNT))) (eqb tag (tagNumber UNT))) (sym h ∙ e)
 
-pub misplaced-by-unt : (n k tag : ℕ) (v w : Bool) → v ≡ cond (eqb k 1) (not (eqb tag 0x484e55)) (eqb tag 0x484e55) → v ≡ false
-    → w ≡ cond (eqb k n) (not (eqb tag 0x544e55)) (eqb tag 0x544e55) → w ≡ isMisplaced n k tag
-misplaced-by-unt n k tag v w e h f = f ∙ ap (λ (x : Bool). x || cond (eqb k n) (not (eqb tag 0x544e55)) (eqb tag 0x544e55)) (sym h ∙ e)
+pub misplaced-by-unt : (n k tag : ℕ) (v w : Bool) → v ≡ cond (eqb k 1) (not (eqb tag (tagNumber UNH))) (eqb tag (tagNumber UNH)) → v ≡ false
+    → w ≡ cond (eqb k n) (not (eqb tag (tagNumber UNT))) (eqb tag (tagNumber UNT)) → w ≡ isMisplaced n k tag
+misplaced-by-unt n k tag v w e h f = f ∙ ap (λ (x : Bool). x || cond (eqb k n) (not (eqb tag (tagNumber UNT))) (eqb tag (tagNumber UNT))) (sym h ∙ e)
 
 -- ---- the first misplaced segment
 
@@ -58,7 +59,7 @@ nought false = refl
 -- of a segment that is not the last one, which one is does not matter
 not-last : (m n tag : ℕ) → n < m → isMisplaced m n tag ≡ isMisplaced (n + 1) n tag
 not-last m n tag h =
-    ap (λ (x : Bool). cond (eqb n 1) (not (eqb tag 0x484e55)) (eqb tag 0x484e55) || cond x (not (eqb tag 0x544e55)) (eqb tag 0x544e55))
+    ap (λ (x : Bool). cond (eqb n 1) (not (eqb tag (tagNumber UNH))) (eqb tag (tagNumber UNH)) || cond x (not (eqb tag (tagNumber UNT))) (eqb tag (tagNumber UNT)))
     (ne-eqb n m (λ e. omega (arith, e)) ∙ sym (ne-eqb n (n + 1) (λ e. omega (arith, e))))
 
 -- ---- the pass: n segments have ended before the offset `at`, the last of which starts at `last` and is not tested yet

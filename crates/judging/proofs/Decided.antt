@@ -11,7 +11,6 @@ use borrow.Author.Tests.{eq-eqb, ne-eqb, le-leb}
 use Rattle.framing.specs.meaning.Limits.{mostBytes}
 use Rattle.reading.specs.meaning.Service.{standard}
 use Rattle.reading.specs.method.Outcome.{Segments}
-use Rattle.reading.specs.method.Starts.{startsFrom}
 use Rattle.reading.specs.declared.service.Service.{Service}
 use Rattle.reading.proofs.Starts.{starts-counted, starts-small}
 use Rattle.framing.specs.meaning.Record.{answer}
@@ -26,7 +25,8 @@ use Rattle.guide.specs.meaning.Plan.{planIn}
 use Rattle.book.specs.method.Each.{isGood}
 use Rattle.judging.specs.method.Answers.{placingVerdict, fieldsVerdict, rowsVerdict}
 use Rattle.placing.specs.method.Fitting.{homeAt}
-use Rattle.placing.specs.method.Passes.{homesFrom, tested, startsTable, homesTable, parentsTable}
+use Rattle.reading.specs.method.Starts.{startsFrom, startsTable}
+use Rattle.placing.specs.method.Passes.{homesFrom, tested, homesTable, parentsTable}
 use Rattle.placing.proofs.Passing.{filled}
 use Rattle.placing.specs.declared.passes.Placing.{Placing}
 use Rattle.placing.specs.declared.passes.Placing.the-variants.{Begins, NoHome, Stops}

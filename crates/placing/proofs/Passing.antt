@@ -20,8 +20,9 @@ use Rattle.guide.specs.meaning.Plan.{Plan, planIn}
 use Rattle.placing.specs.method.Fitting.{homeAt}
 use Rattle.placing.specs.method.Walking.{start, walked, isAlive, StandsFor}
 use Rattle.placing.specs.method.Tree.{rootOnly, parentIn, openedBy, noted, notedParents}
-use Rattle.reading.specs.method.Starts.{startsFrom}
-use Rattle.placing.specs.method.Passes.{homesFrom, firstStop, outcomeOf, testedFrom, tested, entry, startsTable, homesTable, parentsTable}
+use Rattle.slices.specs.method.Entries.{entry}
+use Rattle.reading.specs.method.Starts.{startsFrom, startsTable}
+use Rattle.placing.specs.method.Passes.{homesFrom, firstStop, outcomeOf, testedFrom, tested, homesTable, parentsTable}
 use Rattle.placing.specs.declared.walk.Walk.{Walk}
 use Rattle.placing.specs.declared.passes.Placing.{Placing}
 use Rattle.placing.specs.declared.passes.Placing.the-variants.{NoHome}

@@ -2,7 +2,8 @@
 // test pass and again in the pass that writes.
 ghost use mathlib.Core.Path.{_≡_};
 ghost use Rattle.guide.specs.meaning.Plan.{planIn};
-ghost use Rattle.placing.specs.method.Passes.{homesFrom, firstStop, outcomeOf, tested, entry, startsTable, homesTable, parentsTable};
+ghost use Rattle.placing.specs.method.Passes.{homesFrom, firstStop, outcomeOf, tested, homesTable, parentsTable};
+ghost use Rattle.reading.specs.method.Starts.{startsTable};
 use crate::home;
 use crate::tree;
 use crate::tree::Trail;
@@ -81,13 +82,6 @@ pub fn test_placing(service: Service, message: &[u8], segments: u32, book: &[u8]
     outcome_of(stop)
 }
 
-// An offset as a table holds it.
-fn entry_of(offset: usize) -> u32
-    ensures { λ r. ⌜ r ≡ entry offset ⌝ }
-{
-    (offset % 0x1_0000_0000) as u32
-}
-
 // Writes the tables for the message's first so many segments, as many as there are and as fit: where each one starts, its home,
 // and the trigger of the instance that holds it. Nothing else there changes.
 pub fn write_tree(
@@ -115,7 +109,7 @@ pub fn write_tree(
             Found::Segment(_, next) => {
                 let home = home::find_home(service, message, at, book, &tags, end);
                 let entry = place as usize;
-                slices::put(starts, entry, entry_of(at));
+                slices::put(starts, entry, slices::entry_of(at));
                 slices::put(homes, entry, home);
                 slices::put(parents, entry, tree::parent_of(book, trail, home));
                 place += 1;

@@ -18,7 +18,9 @@ use Rattle.placing.specs.method.Fitting.{homeAt}
 use Rattle.placing.specs.meaning.Placement.{Placed, parentsOf}
 use Rattle.placing.specs.method.Tree.{rootOnly, openedBy, noted, notedParents}
 use Rattle.reading.specs.meaning.Starts.{startsIn, startsOf}
-use Rattle.placing.specs.method.Passes.{homesFrom, entry, startsTable, homesTable, parentsTable, tested}
+use Rattle.slices.specs.method.Entries.{entry}
+use Rattle.reading.specs.method.Starts.{startsTable}
+use Rattle.placing.specs.method.Passes.{homesFrom, homesTable, parentsTable, tested}
 use Rattle.placing_laws.specs.laws.Answers.{Means}
 use Rattle.reading_laws.proofs.Starts.{starts-long, found-starts}
 use Rattle.placing.proofs.Passing.{filled}

@@ -6,7 +6,8 @@ use Rattle.reading.specs.meaning.Service.{standard}
 use Rattle.reading.specs.declared.service.Service.{Service}
 use Rattle.guide.specs.meaning.Plan.{planIn}
 use Rattle.judging.specs.method.Answers.{placingVerdict}
-use Rattle.placing.specs.method.Passes.{homesFrom, tested, startsTable, homesTable, parentsTable}
+use Rattle.reading.specs.method.Starts.{startsTable}
+use Rattle.placing.specs.method.Passes.{homesFrom, tested, homesTable, parentsTable}
 use Rattle.placing.specs.declared.passes.Placing.{Placing}
 use Rattle.probe.specs.Probe.{packed}
 

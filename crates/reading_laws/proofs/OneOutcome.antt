@@ -4,6 +4,7 @@ use mathlib.Core.Path.{_≡_, sym, _∙_}
 use Rattle.reading.proofs.service.Service.standard.Reads as standard
 use Rattle.slices.proofs.byte_at.Reads as byte-at
 use Rattle.slices.proofs.put.Reads as put
+use Rattle.slices.proofs.entry_of.Reads as entry-of
 use Rattle.slices.proofs.put_size.Reads as put-size
 use Rattle.reading.proofs.bytes.is_data.Reads as is-data
 use Rattle.reading.proofs.bytes.is_digit.Reads as is-digit
@@ -100,3 +101,6 @@ one-put κs a r q x y m n = m ∙ sym n
 
 pub one-put-size : (κs : _) (a : _) (r q : _) (x y : _) → put-size.Post κs a r x → put-size.Post κs a q y → x .0 .now ≡ y .0 .now
 one-put-size κs a r q x y m n = m ∙ sym n
+
+pub one-entry-of : One entry-of.Post
+one-entry-of κs a r q x y m n = m ∙ sym n

@@ -2,6 +2,7 @@
 ghost use mathlib.Core.Path.{_≡_};
 ghost use Prim.Native.Nat.{_<_};
 ghost use lib.ListN.{getD, set};
+ghost use Rattle.slices.specs.method.Entries.{entry};
 
 // The byte at an offset; 0 past the end.
 pub fn byte_at(bytes: &[u8], at: usize) -> u32
@@ -29,4 +30,11 @@ pub fn put_size(table: &mut [usize], at: usize, size: usize)
     if at < table.len() {
         table[at] = size;
     }
+}
+
+// A size as a table of 32-bit numbers holds it.
+pub fn entry_of(size: usize) -> u32
+    ensures { λ r. ⌜ r ≡ entry size ⌝ }
+{
+    (size % 0x1_0000_0000) as u32
 }

@@ -7,14 +7,14 @@ use lib.Dec.{eqb}
 use lib.ListN.{length, getD}
 use Rattle.guide.specs.meaning.Guide.{Guide, guideOf}
 use Rattle.book.specs.method.Each.{isGood}
-use Rattle.reading.specs.method.Starts.{startsFrom}
 use Rattle.reading.specs.declared.service.Service.{Service}
 use Rattle.framing.specs.meaning.Record.{answer}
 use Rattle.framing.specs.method.Stages.{orElse, componentAt, messageStage}
 use Rattle.framing.specs.declared.message.Room.{Room}
 use Rattle.framing.specs.declared.verdict.Verdict.{Verdict}
 use Rattle.guide.specs.meaning.Plan.{planIn}
-use Rattle.placing.specs.method.Passes.{homesFrom, tested, startsTable, homesTable, parentsTable}
+use Rattle.reading.specs.method.Starts.{startsFrom, startsTable}
+use Rattle.placing.specs.method.Passes.{homesFrom, tested, homesTable, parentsTable}
 use Rattle.placing.specs.method.Tables.{placeFrom}
 use Rattle.fields.specs.method.Testing.{firstFault}
 use Rattle.rules.specs.method.Conditions.{areTruthValues}

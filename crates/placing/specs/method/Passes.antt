@@ -1,5 +1,5 @@
 -- The two passes over a message: whether its segments can be placed, and the tables. 01, numbers 10 and 11.
-use Prim.Native.Nat.{ℕ, suc, _%_, _^_}
+use Prim.Native.Nat.{ℕ, suc}
 use mathlib.Core.List.{List, [], _∷_, _++_, map}
 use mathlib.Core.Bool.{Bool, cond, not, _&&_}
 use lib.Dec.{eqb}
@@ -38,14 +38,8 @@ testedFrom b seen stop k (h ∷ hs) =
 abbrev pub tested : Plan → List ℕ → Placing
 tested b hs = testedFrom b [] 0 0 hs
 
--- ---- the tables: 01: "32-bit entries"; "write n entries in each (tag offsets, line numbers, the tree) and change none beyond"
-
-abbrev pub entry : ℕ → ℕ
-entry x = x % 2 ^ 32
-
--- `sets table 0 xs` is the table with these entries from the first on, as many as fit
-abbrev pub startsTable : Service → List ℕ → ℕ → List ℕ → List ℕ
-startsTable s bs n table = sets table 0 (map entry (startsFrom s bs n 0))
+-- ---- the tables, but for the starts, which are reading's: 01: "write n entries in each (tag offsets, line numbers, the tree) and change none
+-- beyond"
 
 abbrev pub homesTable : Service → List ℕ → List ℕ → ℕ → List ℕ → List ℕ
 homesTable s bs book n table = sets table 0 (homesFrom s bs book n 0)

@@ -1,0 +1,2 @@
+-- How sizes go into lent tables.
+pub mod Entries
