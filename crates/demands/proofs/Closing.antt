@@ -8,7 +8,6 @@ use mathlib.Core.List.{List, []}
 use mathlib.Core.Bool.{Bool, true, false}
 use lib.Dec.{eqb}
 use lib.ListN.{length, getD, take}
-use denote.Ref.{RefT}
 use borrow.Author.Tests.{le-leb, lt-leb, eqb-true, eqb-false}
 use Rattle.guide.specs.meaning.Guide.{guideOf}
 use Rattle.reading.specs.meaning.Service.{standard}
@@ -32,7 +31,7 @@ use Rattle.judging.proofs.Decided.{refusal-number}
 use Rattle.judging.specs.method.Table.{refusal, identifierIn, identifierVerdict, placedStage, judged, tablesAfter}
 use Rattle.slices.specs.meaning.Lent.{asManyAsFit}
 use Rattle.tracksaddle.proofs.tracksaddle_judge.Reads as judge
-use Rattle.demands.proofs.DoorMeans.{whole-record}
+use Rattle.demands.proofs.DoorMeans.{whole-record, lent}
 use Rattle.demands.specs.meaning.Demands.{HoldTree, Demand1, Demand2, Demand3}
 use Rattle.demands.specs.meaning.Closing as call
 use Rattle.demands.specs.meaning.Closing.{Handed, Left, Promised, knowing, Answers, Shown, IsOther, Closing}
@@ -138,9 +137,6 @@ module _ (h : Handed) (l : Left) (p : Promised h l) where
       (subst (λ (g : Handed). Given g left) handed-is (record { number = p .promise .0; entries = p .promise .1; tables = p .promise .2 }))
 
 -- ---- whatever is handed over, there is an outcome that the contract admits
-
-abbrev lent : List ℕ → RefT (List ℕ)
-lent xs = record { ptr = (0, 0); name = 0; now = xs }
 
 -- a call's seven arguments
 abbrev seven : {A : Type 0} → A → A → A → A → A → A → A → A × (A × (A × (A × (A × (A × (A × Unit {0}))))))

@@ -5,6 +5,7 @@ use mathlib.Core.Path.{_≡_, refl, sym, ap, _∙_}
 use mathlib.Core.List.{List, [], _∷_}
 use lib.ListN.{length, take, drop}
 use lib.Seq.{take-all}
+use denote.Ref.{RefT}
 use Rattle.framing.specs.meaning.Record.{numbersOf}
 use Rattle.framing.specs.declared.verdict.Verdict.{Verdict}
 use Rattle.reading.specs.meaning.Service.{standard}
@@ -27,10 +28,35 @@ module _ (s : Sought) (after : List ℕ) (p : Promised s after) where
       sym (p .part-after) ∙ p .promise ∙ promised
       ∙ ap (λ (x : Span). asManyAsFit (partNumbers x) (s .part)) (lies-at standard good-standard (s .message) (s .at) (s .element) (s .component) k l)
 
+-- a slice as a call is handed it, with a made-up pointer, of which a contract says nothing
+abbrev pub lent : List ℕ → RefT (List ℕ)
+lent xs = record { ptr = (0, 0); name = 0; now = xs }
+
+-- an outcome that the contract admits
+outcome : (s : Sought) → (after : List ℕ) × Promised s after
+outcome s =
+    let after = asManyAsFit (partNumbers (componentSpan standard (s .message) (s .at) (s .element) (s .component))) (s .part) in (
+      after,
+      record {
+        lifetimes = ([], ([], tt));
+        passed = (lent (s .message), (s .at, (s .element, (s .component, (lent (s .part), tt)))));
+        returned = tt;
+        at-exit = (lent (s .message), (s .at, (s .element, (s .component, (lent after, tt)))));
+        promise = refl;
+        message = refl;
+        at = refl;
+        element = refl;
+        component = refl;
+        part-before = refl;
+        part-after = refl;
+      },
+    )
+
 pub lookup : Lookup
 lookup =
     record {
       asks-nothing = λ κs a. tt;
+      answers = outcome;
       lies = λ s. lies standard good-standard (s .message) (s .at) (s .element) (s .component);
       part = part-there;
     }

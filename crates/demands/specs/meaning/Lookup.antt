@@ -38,8 +38,10 @@ abbrev pub LiesAt : Sought → ComponentPlace → Type 0
 LiesAt s p = Lies standard (s .message) (s .at) (s .element) (s .component) p
 
 pub record Lookup : Type 1 where
-  -- nobody has to check anything first, and whatever the bytes and the numbers a component lies somewhere: present, absent or nowhere
+  -- nobody has to check anything first; whatever is handed over there is an outcome, and the component lies somewhere: present, absent or
+  -- nowhere
   pub asks-nothing : (κs : _) (a : _) → find.Pre κs a
+  pub answers : (s : Sought) → (after : List ℕ) × Promised s after
   pub lies : (s : Sought) → (p : ComponentPlace) × LiesAt s p
   -- 01: "handed back as a part of the message itself, release bytes included; if absent, as the empty part at the segment's `'`": its offset
   -- and its length
