@@ -20,6 +20,7 @@ use Rattle.reading.specs.declared.machine.State.{State}
 use Rattle.reading.specs.declared.machine.State.the-variants.{Start, Second, Third, Tagged, Inside, Released, Dead}
 use Rattle.reading.specs.declared.cursor.End.{End}
 use Rattle.reading.specs.declared.cursor.End.the-variants.{At, Nowhere}
+use Rattle.reading.proofs.States.{Course, ends, goes-on, fails, course}
 
 -- ---- how near the terminator can be
 
@@ -33,51 +34,22 @@ least Inside = 0
 least Released = 0
 least Dead = 0
 
+-- a byte brings the terminator nearer by one, and before the terminator itself nothing had to come
 abbrev Nearer : ℕ → State → Type 0
-Nearer n Start = n ≡ 0
-Nearer n Second = n ≤ 3
-Nearer n Third = n ≤ 2
-Nearer n Tagged = n ≤ 1
-Nearer n Inside = n ≡ 0
-Nearer n Released = n ≡ 0
-Nearer n Dead = Unit {0}
+Nearer n q = isDead q ≡ false → n ≤ pick (isStart q) 0 (least q + 1)
 
-nearer-tag : (t : Bool) (q : State) (n : ℕ) → Nearer n q → Nearer n (afterTag t q)
-nearer-tag true q n h = h
-nearer-tag false q n h = tt
-
-nearer-tagged : (k : Kind) → Nearer 0 (afterTagged k)
-nearer-tagged Component = tt
-nearer-tagged Element = refl
-nearer-tagged Terminator = refl
-nearer-tagged Release = tt
-nearer-tagged Plain = tt
-nearer-tagged Other = tt
-
-nearer-inside : (k : Kind) → Nearer 0 (afterInside k)
-nearer-inside Component = refl
-nearer-inside Element = refl
-nearer-inside Terminator = refl
-nearer-inside Release = refl
-nearer-inside Plain = refl
-nearer-inside Other = tt
-
-nearer-released : (k : Kind) → Nearer 0 (afterReleased k)
-nearer-released Component = refl
-nearer-released Element = refl
-nearer-released Terminator = refl
-nearer-released Release = refl
-nearer-released Plain = tt
-nearer-released Other = tt
+nearer-tag : (t : Bool) (q : State) (n : ℕ) → isStart q ≡ false → n ≤ least q + 1 → Nearer n (afterTag t q)
+nearer-tag true q n t h = λ d. rw t h
+nearer-tag false q n t h = λ d. absurd (true≢false d)
 
 nearer : (s : Service) (p : State) (b : ℕ) → Nearer (least p) (stepped s p b)
-nearer s Start b = nearer-tag (isTagByte b) Second 3 (omega arith)
-nearer s Second b = nearer-tag (isTagByte b) Third 2 (omega arith)
-nearer s Third b = nearer-tag (isTagByte b) Tagged 1 (omega arith)
-nearer s Tagged b = nearer-tagged (kindOf s b)
-nearer s Inside b = nearer-inside (kindOf s b)
-nearer s Released b = nearer-released (kindOf s b)
-nearer s Dead b = tt
+nearer s Start b = nearer-tag (isTagByte b) Second 3 refl (omega arith)
+nearer s Second b = nearer-tag (isTagByte b) Third 2 refl (omega arith)
+nearer s Third b = nearer-tag (isTagByte b) Tagged 1 refl (omega arith)
+nearer s Tagged b = λ d. omega arith
+nearer s Inside b = λ d. omega arith
+nearer s Released b = λ d. omega arith
+nearer s Dead b = λ d. omega arith
 
 pub record Within (from length end : ℕ) : Type 0 where
   pub behind : from ≤ end
@@ -92,20 +64,16 @@ not-at e = let z : _≡_ {A = ℕ} 0 1 = cc in omega arith
 pub end-on-within : (s : Service) (p : State) (here end : ℕ) (bs : List ℕ) → endOn s p here bs ≡ At end → Within (here + least p) (here + length bs) end
 unfolding endOn
 end-on-within s p here end [] e = absurd (not-at e)
-end-on-within s p here end (b ∷ bs) e = go (least p) (stepped s p b) (nearer s p b) (end-on-within s (stepped s p b) (here + 1) end bs) e
+end-on-within s p here end (b ∷ bs) e = go (course (stepped s p b)) (nearer s p b) (λ q. end-on-within s q (here + 1) end bs) e
   where
-    further : (n : ℕ) (q : State) → n ≤ least q + 1 → Within (here + 1 + least q) (here + 1 + length bs) end → Within (here + n) (here + suc (length bs)) end
-    further n q h w = record { behind = let x = w .behind in omega arith; inside = let x = w .inside in omega arith }
-
-    go : (n : ℕ) (q : State) → Nearer n q → (endOn s q (here + 1) bs ≡ At end → Within (here + 1 + least q) (here + 1 + length bs) end)
-        → pick (isStart q) (At here) (pick (isDead q) Nowhere (endOn s q (here + 1) bs)) ≡ At end → Within (here + n) (here + suc (length bs)) end
-    go n Start h ih e = let x : here ≡ end = at-is e in record { behind = omega arith; inside = omega arith }
-    go n Second h ih e = further n Second (omega arith) (ih e)
-    go n Third h ih e = further n Third (omega arith) (ih e)
-    go n Tagged h ih e = further n Tagged (omega arith) (ih e)
-    go n Inside h ih e = further n Inside (omega arith) (ih e)
-    go n Released h ih e = further n Released (omega arith) (ih e)
-    go n Dead h ih e = absurd (not-at e)
+    go : {q : State} → Course q → Nearer (least p) q → ((x : State) → endOn s x (here + 1) bs ≡ At end → Within (here + 1 + least x) (here + 1 + length bs) end)
+        → pick (isStart q) (At here) (pick (isDead q) Nowhere (endOn s q (here + 1) bs)) ≡ At end → Within (here + least p) (here + suc (length bs)) end
+    go ends near ih e = let x : here ≡ end = at-is e in let h = near refl in record { behind = omega arith; inside = omega arith }
+    go (goes-on t d) near ih e =
+        let w = ih _ (rw (t, d) at e) in
+        let h = rw t at (near d) in
+        record { behind = let x = w .behind in omega arith; inside = let x = w .inside in omega arith }
+    go fails near ih e = absurd (not-at e)
 
 -- the terminator stands behind the three bytes of the tag, and within the message
 pub end-within : (s : Service) (bs : List ℕ) (at end : ℕ) → segmentEnd s bs at ≡ At end → Within (at + 3) (length bs) end

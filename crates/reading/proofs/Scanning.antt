@@ -11,9 +11,10 @@ use borrow.Author.Tests.{lt-ltb}
 use Rattle.reading.specs.method.Machine.{pick, stepped, isStart, isDead, ended, finished, scanOn, scanned, badOn, badFrom, endOn, segmentEnd}
 use Rattle.reading.specs.declared.service.Service.{Service}
 use Rattle.reading.specs.declared.machine.State.{State}
-use Rattle.reading.specs.declared.machine.State.the-variants.{Start, Second, Third, Tagged, Inside, Released, Dead}
+use Rattle.reading.specs.declared.machine.State.the-variants.{Start}
 use Rattle.reading.specs.method.Outcome.{Segments, BadAt}
 use Rattle.reading.specs.declared.cursor.End.the-variants.{At, Nowhere}
+use Rattle.reading.proofs.States.{Course, ends, goes-on, fails, course}
 use Rattle.reading.proofs.Ending.{at-is, not-at, end-on-within, end-within}
 
 -- ---- what a scan comes to is one of two
@@ -33,7 +34,7 @@ scan-over : (s : Service) (p : State) (n at end : ℕ) (bs : List ℕ) → endOn
     → scanOn s p n at bs ≡ scanOn s Start (n + 1) (end + 1) (drop (end + 1 - at) bs)
 unfolding scanOn endOn
 scan-over s p n at end [] e = absurd (not-at e)
-scan-over s p n at end (b ∷ bs) e = go (stepped s p b) (λ q. scan-over s q n (at + 1) end bs) e
+scan-over s p n at end (b ∷ bs) e = go (course (stepped s p b)) (λ q. scan-over s q n (at + 1) end bs) e
   where
     on : (q : State) → endOn s q (at + 1) bs ≡ At end → drop (end + 1 - (at + 1)) bs ≡ drop (end + 1 - at) (b ∷ bs)
     on q h =
@@ -41,45 +42,37 @@ scan-over s p n at end (b ∷ bs) e = go (stepped s p b) (λ q. scan-over s q n 
         let k : end + 1 - at ≡ suc (end + 1 - (at + 1)) = omega arith in
         sym (ap (λ (m : ℕ). drop m (b ∷ bs)) k)
 
-    go : (q : State)
+    go : {q : State} → Course q
         → ((x : State) → endOn s x (at + 1) bs ≡ At end → scanOn s x n (at + 1) bs ≡ scanOn s Start (n + 1) (end + 1) (drop (end + 1 - (at + 1)) bs))
         → pick (isStart q) (At at) (pick (isDead q) Nowhere (endOn s q (at + 1) bs)) ≡ At end
         → pick (isDead q) (BadAt at) (scanOn s q (ended q n) (at + 1) bs) ≡ scanOn s Start (n + 1) (end + 1) (drop (end + 1 - at) (b ∷ bs))
-    go Start ih h =
+    go ends ih h =
         let x : at ≡ end = at-is h in
         let k : end + 1 - at ≡ 1 = omega arith in
         ap₂ (scanOn s Start (n + 1)) (ap (λ (m : ℕ). m + 1) x) (sym (ap (λ (m : ℕ). drop m (b ∷ bs)) k))
-    go Second ih h = ih Second h ∙ ap (scanOn s Start (n + 1) (end + 1)) (on Second h)
-    go Third ih h = ih Third h ∙ ap (scanOn s Start (n + 1) (end + 1)) (on Third h)
-    go Tagged ih h = ih Tagged h ∙ ap (scanOn s Start (n + 1) (end + 1)) (on Tagged h)
-    go Inside ih h = ih Inside h ∙ ap (scanOn s Start (n + 1) (end + 1)) (on Inside h)
-    go Released ih h = ih Released h ∙ ap (scanOn s Start (n + 1) (end + 1)) (on Released h)
-    go Dead ih h = absurd (not-at h)
+    go (goes-on t d) ih h = let i = rw (t, d) at h in rw (t, d) (ih _ i ∙ ap (scanOn s Start (n + 1) (end + 1)) (on _ i))
+    go fails ih h = absurd (not-at h)
 
 -- ---- where no segment ends
 
 -- behind a byte that does not end the segment
-scan-bad-behind : (s : Service) (q : State) (n at : ℕ) (bs : List ℕ) → pick (isStart q) (At at) (pick (isDead q) Nowhere (endOn s q (at + 1) bs)) ≡ Nowhere
+scan-bad-behind : (s : Service) {q : State} → Course q → (n at : ℕ) (bs : List ℕ) → pick (isStart q) (At at) (pick (isDead q) Nowhere (endOn s q (at + 1) bs)) ≡ Nowhere
     → ((x : State) → isStart x ≡ false → endOn s x (at + 1) bs ≡ Nowhere → scanOn s x n (at + 1) bs ≡ BadAt (badOn s x (at + 1) bs))
     → pick (isDead q) (BadAt at) (scanOn s q (ended q n) (at + 1) bs) ≡ BadAt (pick (isDead q) at (badOn s q (at + 1) bs))
-scan-bad-behind s Start n at bs h ih = absurd (at-nowhere h)
-scan-bad-behind s Second n at bs h ih = ih Second refl h
-scan-bad-behind s Third n at bs h ih = ih Third refl h
-scan-bad-behind s Tagged n at bs h ih = ih Tagged refl h
-scan-bad-behind s Inside n at bs h ih = ih Inside refl h
-scan-bad-behind s Released n at bs h ih = ih Released refl h
-scan-bad-behind s Dead n at bs h ih = refl
+scan-bad-behind s ends n at bs h ih = absurd (at-nowhere h)
+scan-bad-behind s (goes-on t d) n at bs h ih = rw (t, d) (ih _ t (rw (t, d) at h))
+scan-bad-behind s fails n at bs h ih = refl
 
 -- and none has ended here
 scan-bad : (s : Service) (p : State) (n at : ℕ) (bs : List ℕ) → isStart p ≡ false → endOn s p at bs ≡ Nowhere → scanOn s p n at bs ≡ BadAt (badOn s p at bs)
 unfolding scanOn endOn badOn
 scan-bad s p n at [] t e = rw t refl
-scan-bad s p n at (b ∷ bs) t e = scan-bad-behind s (stepped s p b) n at bs e (λ x. scan-bad s x n (at + 1) bs)
+scan-bad s p n at (b ∷ bs) t e = scan-bad-behind s (course (stepped s p b)) n at bs e (λ x. scan-bad s x n (at + 1) bs)
 
 -- a byte at least
 scan-bad-first : (s : Service) (p : State) (n at b : ℕ) (bs : List ℕ) → endOn s p at (b ∷ bs) ≡ Nowhere → scanOn s p n at (b ∷ bs) ≡ BadAt (badOn s p at (b ∷ bs))
 unfolding scanOn endOn badOn
-scan-bad-first s p n at b bs e = scan-bad-behind s (stepped s p b) n at bs e (λ x. scan-bad s x n (at + 1) bs)
+scan-bad-first s p n at b bs e = scan-bad-behind s (course (stepped s p b)) n at bs e (λ x. scan-bad s x n (at + 1) bs)
 
 -- ---- the loop over segments: before the one that starts at `at`, n have ended, no more than bytes have been read
 

@@ -1,7 +1,7 @@
 -- What a scan accepts is how a valid message of so many segments is written, and all of that.
 use Prim.Native.Nat.{ℕ, _+_, _<_}
 use native.Mathlib.Omega.{arith}
-use mathlib.Core.Path.{_≡_, refl, sym, ap, _∙_}
+use mathlib.Core.Path.{_≡_, refl, ap, _∙_}
 use mathlib.Core.List.{List, [], _∷_}
 use mathlib.Core.Option.{some, none}
 use mathlib.Core.Bool.{Bool, true, false, _&&_}
@@ -16,9 +16,10 @@ use Rattle.reading_laws.specs.laws.Outcome.{Means}
 use Rattle.reading.specs.method.Machine.{pick, stepped, isStart, isDead, ended, finished, scanOn, scanned}
 use Rattle.reading.specs.declared.service.Service.{Service}
 use Rattle.reading.specs.declared.machine.State.{State}
-use Rattle.reading.specs.declared.machine.State.the-variants.{Start, Second, Third, Tagged, Inside, Released, Dead}
+use Rattle.reading.specs.declared.machine.State.the-variants.{Start}
+use Rattle.reading.proofs.States.{Course, ends, goes-on, fails, course, none-ended}
 use Rattle.reading.proofs.Scanning.{bad-segments, segments-is}
-use Rattle.reading_laws.proofs.Segments.{behind, behind-step, behind-dead, none-some, some-is, behind-segment, segment-behind}
+use Rattle.reading_laws.proofs.Segments.{behind, behind-step, none-some, some-is, behind-segment, segment-behind}
 
 module _ (s : Service) where
   -- a scan that goes on from somewhere: the place does not matter to what is accepted
@@ -36,20 +37,16 @@ module _ (s : Service) where
   over-segment : (p : State) (n at : ℕ) (bs rest : List ℕ) → behind s p bs ≡ some rest → GoesOn p n at bs Start (n + 1) rest
   unfolding behind
   over-segment p n at [] rest e = absurd (none-some e)
-  over-segment p n at (b ∷ bs) rest e = go (stepped s p b) refl (λ q. over-segment q n (at + 1) bs rest) e
+  over-segment p n at (b ∷ bs) rest e = go (course (stepped s p b)) refl (λ q. over-segment q n (at + 1) bs rest) e
     where
-      further : (q : State) → stepped s p b ≡ q → isDead q ≡ false → ended q n ≡ n → GoesOn q n (at + 1) bs Start (n + 1) rest → GoesOn p n at (b ∷ bs) Start (n + 1) rest
-      further q h d c g = record { there = g .there; same = on-step p q n at b bs h ∙ rw (d, c) (g .same) }
+      further : (q : State) → stepped s p b ≡ q → isStart q ≡ false → isDead q ≡ false → GoesOn q n (at + 1) bs Start (n + 1) rest → GoesOn p n at (b ∷ bs) Start (n + 1) rest
+      further q h t d g = record { there = g .there; same = on-step p q n at b bs h ∙ rw (d, none-ended q n t) (g .same) }
 
-      go : (q : State) → stepped s p b ≡ q → ((x : State) → behind s x bs ≡ some rest → GoesOn x n (at + 1) bs Start (n + 1) rest)
+      go : {q : State} → Course q → stepped s p b ≡ q → ((x : State) → behind s x bs ≡ some rest → GoesOn x n (at + 1) bs Start (n + 1) rest)
           → pick (isStart q) (some bs) (pick (isDead q) none (behind s q bs)) ≡ some rest → GoesOn p n at (b ∷ bs) Start (n + 1) rest
-      go Start h ih e = record { there = at + 1; same = on-step p Start n at b bs h ∙ ap (scanOn s Start (n + 1) (at + 1)) (some-is e) }
-      go Second h ih e = further Second h refl refl (ih Second e)
-      go Third h ih e = further Third h refl refl (ih Third e)
-      go Tagged h ih e = further Tagged h refl refl (ih Tagged e)
-      go Inside h ih e = further Inside h refl refl (ih Inside e)
-      go Released h ih e = further Released h refl refl (ih Released e)
-      go Dead h ih e = absurd (none-some e)
+      go ends h ih e = record { there = at + 1; same = on-step p Start n at b bs h ∙ ap (scanOn s Start (n + 1) (at + 1)) (some-is e) }
+      go (goes-on t d) h ih e = further _ h t d (ih _ (rw (t, d) at e))
+      go fails h ih e = absurd (none-some e)
 
 module _ (s : Service) (good : GoodService s) where
   -- ---- what is written is accepted
@@ -84,18 +81,16 @@ module _ (s : Service) (good : GoodService s) where
     found : behind s p bs ≡ some rest
     after : FromStart (n + 1) k rest
 
-  abbrev Follows : State → ℕ → ℕ → List ℕ → Type 0
-  Follows Start n k bs = FromStart n k bs
-  Follows Second n k bs = InSegment Second n k bs
-  Follows Third n k bs = InSegment Third n k bs
-  Follows Tagged n k bs = InSegment Tagged n k bs
-  Follows Inside n k bs = InSegment Inside n k bs
-  Follows Released n k bs = InSegment Released n k bs
-  Follows Dead n k bs = ⊥
+  abbrev FollowsBy : Bool → State → ℕ → ℕ → List ℕ → Type 0
+  FollowsBy true p n k bs = FromStart n k bs
+  FollowsBy false p n k bs = InSegment p n k bs
 
-  whole : (p : State) (n k : ℕ) (bs : List ℕ) → InSegment p n k bs → Follows p n k bs
+  abbrev Follows : State → ℕ → ℕ → List ℕ → Type 0
+  Follows p n k bs = FollowsBy (isStart p) p n k bs
+
+  whole : {p : State} → Course p → (n k : ℕ) (bs : List ℕ) → InSegment p n k bs → Follows p n k bs
   unfolding writeSegments
-  whole Start n k bs i =
+  whole ends n k bs i =
       let g = segment-behind s good bs (i .rest) (i .found) in
       record {
         message = g .segment ∷ i .after .message;
@@ -103,42 +98,34 @@ module _ (s : Service) (good : GoodService s) where
         count = let c = i .after .count in omega arith;
         same = g .same ∙ ap (writeSegment s (g .segment)) (i .after .same);
       }
-  whole Second n k bs i = i
-  whole Third n k bs i = i
-  whole Tagged n k bs i = i
-  whole Inside n k bs i = i
-  whole Released n k bs i = i
-  whole Dead n k bs i = none-some (sym (behind-dead s bs) ∙ i .found)
+  whole (goes-on t d) n k bs i = rw t i
+  whole fails n k bs i = i
 
-  at-end : (p : State) (n k at : ℕ) → finished p n at ≡ Segments k → Follows p n k []
+  at-end : {p : State} → Course p → (n k at : ℕ) → finished p n at ≡ Segments k → Follows p n k []
   unfolding writeSegments
-  at-end Start n k at e = go (ltb 0 n) e
+  at-end ends n k at e = go (ltb 0 n) e
     where
       go : (t : Bool) → pick t (Segments n) (BadAt at) ≡ Segments k → FromStart n k []
       go true e = record { message = []; valid = tt; count = let h : n ≡ k = segments-is e in omega arith; same = refl }
       go false e = absurd (bad-segments e)
-  at-end Second n k at e = absurd (bad-segments e)
-  at-end Third n k at e = absurd (bad-segments e)
-  at-end Tagged n k at e = absurd (bad-segments e)
-  at-end Inside n k at e = absurd (bad-segments e)
-  at-end Released n k at e = absurd (bad-segments e)
-  at-end Dead n k at e = absurd (bad-segments e)
+  at-end (goes-on t d) n k at e = absurd (bad-segments (rw t at e))
+  at-end fails n k at e = absurd (bad-segments e)
 
-  on-byte : (p q : State) (n k at b : ℕ) (bs : List ℕ) → stepped s p b ≡ q → (scanOn s q (ended q n) (at + 1) bs ≡ Segments k → Follows q (ended q n) k bs)
+  a-byte-more : (p q : State) (n k b : ℕ) (bs : List ℕ) → stepped s p b ≡ q → isStart q ≡ false → isDead q ≡ false → InSegment q n k bs → InSegment p n k (b ∷ bs)
+  a-byte-more p q n k b bs h t d i = record { rest = i .rest; found = behind-step s p q b bs h ∙ rw (t, d) (i .found); after = i .after }
+
+  on-byte : (p : State) {q : State} → Course q → (n k at b : ℕ) (bs : List ℕ) → stepped s p b ≡ q
+      → (scanOn s q (ended q n) (at + 1) bs ≡ Segments k → Follows q (ended q n) k bs)
       → pick (isDead q) (BadAt at) (scanOn s q (ended q n) (at + 1) bs) ≡ Segments k → InSegment p n k (b ∷ bs)
-  on-byte p Start n k at b bs h ih e = record { rest = bs; found = behind-step s p Start b bs h; after = ih e }
-  on-byte p Second n k at b bs h ih e = let i = ih e in record { rest = i .rest; found = behind-step s p Second b bs h ∙ i .found; after = i .after }
-  on-byte p Third n k at b bs h ih e = let i = ih e in record { rest = i .rest; found = behind-step s p Third b bs h ∙ i .found; after = i .after }
-  on-byte p Tagged n k at b bs h ih e = let i = ih e in record { rest = i .rest; found = behind-step s p Tagged b bs h ∙ i .found; after = i .after }
-  on-byte p Inside n k at b bs h ih e = let i = ih e in record { rest = i .rest; found = behind-step s p Inside b bs h ∙ i .found; after = i .after }
-  on-byte p Released n k at b bs h ih e = let i = ih e in record { rest = i .rest; found = behind-step s p Released b bs h ∙ i .found; after = i .after }
-  on-byte p Dead n k at b bs h ih e = absurd (bad-segments e)
+  on-byte p ends n k at b bs h ih e = record { rest = bs; found = behind-step s p Start b bs h; after = ih e }
+  on-byte p (goes-on t d) n k at b bs h ih e = a-byte-more p _ n k b bs h t d (rw t at (ih (rw d at e)))
+  on-byte p fails n k at b bs h ih e = absurd (bad-segments e)
 
   follows : (p : State) (n k at : ℕ) (bs : List ℕ) → scanOn s p n at bs ≡ Segments k → Follows p n k bs
   unfolding scanOn
-  follows p n k at [] e = at-end p n k at e
+  follows p n k at [] e = at-end (course p) n k at e
   follows p n k at (b ∷ bs) e =
-      whole p n k (b ∷ bs) (on-byte p (stepped s p b) n k at b bs refl (follows (stepped s p b) (ended (stepped s p b) n) k (at + 1) bs) e)
+      whole (course p) n k (b ∷ bs) (on-byte p (course (stepped s p b)) n k at b bs refl (follows (stepped s p b) (ended (stepped s p b) n) k (at + 1) bs) e)
 
   some-segment : (p : State) (n k at : ℕ) (bs : List ℕ) → scanOn s p n at bs ≡ Segments k → 0 < k
   unfolding scanOn

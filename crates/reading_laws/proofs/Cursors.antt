@@ -17,9 +17,10 @@ use Rattle.reading.specs.meaning.Component.{span}
 use Rattle.reading.specs.method.Machine.{pick, stepped, isStart, isDead, endOn, segmentEnd, foundBy, nextSegment}
 use Rattle.reading.specs.declared.service.Service.{Service}
 use Rattle.reading.specs.declared.machine.State.{State}
-use Rattle.reading.specs.declared.machine.State.the-variants.{Start, Second, Third, Tagged, Inside, Released, Dead}
+use Rattle.reading.specs.declared.machine.State.the-variants.{Start}
 use Rattle.reading.specs.declared.cursor.End.the-variants.{At, Nowhere}
 use Rattle.reading.specs.declared.cursor.Found.the-variants as found
+use Rattle.reading.proofs.States.{Course, ends, goes-on, fails, course}
 use Rattle.reading_laws.proofs.Segments.{behind, none-some, some-is, behind-segment, segment-behind}
 use Rattle.reading_laws.proofs.Rendering.{elements-long, segment-front, segments-append, segments-front}
 
@@ -38,21 +39,17 @@ module _ (s : Service) where
   ends-at : (p : State) (at : ℕ) (bs rest : List ℕ) → behind s p bs ≡ some rest → EndsAt s p at bs rest
   unfolding behind
   ends-at p at [] rest e = absurd (none-some e)
-  ends-at p at (b ∷ bs) rest e = go (stepped s p b) refl (λ q. ends-at q (at + 1) bs rest) e
+  ends-at p at (b ∷ bs) rest e = go (course (stepped s p b)) refl (λ q. ends-at q (at + 1) bs rest) e
     where
       further : (q : State) → stepped s p b ≡ q → isStart q ≡ false → isDead q ≡ false → EndsAt s q (at + 1) bs rest → EndsAt s p at (b ∷ bs) rest
       further q h t d i = record { end = i .end; found = end-step p q at b bs h ∙ rw (t, d) (i .found); counted = let c = i .counted in omega arith }
 
-      go : (q : State) → stepped s p b ≡ q → ((x : State) → behind s x bs ≡ some rest → EndsAt s x (at + 1) bs rest)
+      go : {q : State} → Course q → stepped s p b ≡ q → ((x : State) → behind s x bs ≡ some rest → EndsAt s x (at + 1) bs rest)
           → pick (isStart q) (some bs) (pick (isDead q) none (behind s q bs)) ≡ some rest → EndsAt s p at (b ∷ bs) rest
-      go Start h ih e =
+      go ends h ih e =
           record { end = at; found = end-step p Start at b bs h; counted = let l : length bs ≡ length rest = ap length (some-is e) in omega arith }
-      go Second h ih e = further Second h refl refl (ih Second e)
-      go Third h ih e = further Third h refl refl (ih Third e)
-      go Tagged h ih e = further Tagged h refl refl (ih Tagged e)
-      go Inside h ih e = further Inside h refl refl (ih Inside e)
-      go Released h ih e = further Released h refl refl (ih Released e)
-      go Dead h ih e = absurd (none-some e)
+      go (goes-on t d) h ih e = further _ h t d (ih _ (rw (t, d) at e))
+      go fails h ih e = absurd (none-some e)
 
   ends-nowhere : (p : State) (at : ℕ) (bs : List ℕ) → behind s p bs ≡ none → endOn s p at bs ≡ Nowhere
   unfolding behind endOn

@@ -20,20 +20,17 @@ use Rattle.reading.specs.declared.service.Service.{Service}
 use Rattle.reading.specs.declared.machine.State.{State}
 use Rattle.reading.specs.declared.machine.State.the-variants.{Start, Second, Third, Tagged, Inside, Released, Dead}
 use Rattle.reading_laws.proofs.Services.{kind-release, kind-terminator}
+use Rattle.reading.proofs.States.{Course, ends, goes-on, fails, course}
 use Rattle.reading.proofs.Scanning.{bad-segments}
 use Rattle.reading_laws.proofs.Accepting.{on-step, accepts, accepted}
 
 bad-is : {j k : ℕ} → BadAt j ≡ BadAt k → j ≡ k
 bad-is e = cc
 
-is-dead : (p : State) → isDead p ≡ true → p ≡ Dead
-is-dead Start e = absurd (false≢true e)
-is-dead Second e = absurd (false≢true e)
-is-dead Third e = absurd (false≢true e)
-is-dead Tagged e = absurd (false≢true e)
-is-dead Inside e = absurd (false≢true e)
-is-dead Released e = absurd (false≢true e)
-is-dead Dead e = refl
+is-dead : {p : State} → Course p → isDead p ≡ true → p ≡ Dead
+is-dead ends e = absurd (false≢true e)
+is-dead (goes-on t d) e = absurd (true≢false (sym e ∙ d))
+is-dead fails e = refl
 
 module _ (s : Service) where
   -- the state after some bytes
@@ -51,7 +48,7 @@ module _ (s : Service) where
   alive-first p bs e = go (isDead p) refl
     where
       go : (t : Bool) → isDead p ≡ t → t ≡ false
-      go true h = absurd (true≢false (sym (ap (λ (q : State). isDead (after q bs)) (is-dead p h) ∙ ap isDead (after-dead bs)) ∙ e))
+      go true h = absurd (true≢false (sym (ap (λ (q : State). isDead (after q bs)) (is-dead (course p) h) ∙ ap isDead (after-dead bs)) ∙ e))
       go false h = refl
 
   alive-take : (p : State) (i j : ℕ) (bs : List ℕ) → i ≤ j → isDead (after p (take j bs)) ≡ false → isDead (after p (take i bs)) ≡ false
@@ -89,7 +86,7 @@ module _ (s : Service) where
   -- past a dead one it has answered
   over-dead : (p : State) (n at : ℕ) (xs ys : List ℕ) → isDead (after p xs) ≡ true → (k : ℕ) × (scanOn s p n at (xs ++ ys) ≡ BadAt k)
   unfolding after
-  over-dead p n at [] ys e = (at, ap (λ (q : State). scanOn s q n at ys) (is-dead p e) ∙ from-dead n at ys)
+  over-dead p n at [] ys e = (at, ap (λ (q : State). scanOn s q n at ys) (is-dead (course p) e) ∙ from-dead n at ys)
   over-dead p n at (x ∷ xs) ys e = go (isDead (stepped s p x)) refl (over-dead (stepped s p x) (ended (stepped s p x) n) (at + 1) xs ys e)
     where
       go : (t : Bool) → isDead (stepped s p x) ≡ t → (k : ℕ) × (scanOn s (stepped s p x) (ended (stepped s p x) n) (at + 1) (xs ++ ys) ≡ BadAt k)

@@ -14,6 +14,7 @@ use Rattle.reading.specs.declared.bytes.Kind.{Kind}
 use Rattle.reading.specs.declared.bytes.Kind.the-variants.{Component, Element, Terminator, Release, Plain, Other}
 use Rattle.reading.specs.declared.machine.State.{State}
 use Rattle.reading.specs.declared.machine.State.the-variants.{Start, Second, Third, Tagged, Inside, Released, Dead}
+use Rattle.reading.proofs.States.{Course, ends, goes-on, fails, course}
 use Rattle.reading_laws.proofs.Services.{Seen, see, component-data, element-data, release-data, terminator-data, kind-release, kind-component, kind-element, kind-terminator}
 use Rattle.reading_laws.proofs.Services.Seen.{component, element, terminator, release, plain, other}
 
@@ -41,11 +42,6 @@ module _ (s : Service) where
       → behind s p (b ∷ bs) ≡ pick (isStart q) (some bs) (pick (isDead q) none (behind s q bs))
   unfolding behind
   behind-step p q b bs e = ap (λ (x : State). pick (isStart x) (some bs) (pick (isDead x) none (behind s x bs))) e
-
-  pub behind-dead : (bs : List ℕ) → behind s Dead bs ≡ none
-  unfolding behind
-  behind-dead [] = refl
-  behind-dead (b ∷ bs) = refl
 
 module _ (s : Service) (good : GoodService s) where
   -- ---- over what is written, the terminator is found
@@ -153,14 +149,12 @@ module _ (s : Service) (good : GoodService s) where
   From Dead rest bs = ⊥
 
   -- after a byte: it was the terminator and the rest is left, or the segment goes on
+  abbrev NextBy : Bool → State → List ℕ → List ℕ → Type 0
+  NextBy true q rest bs = bs ≡ rest
+  NextBy false q rest bs = From q rest bs
+
   abbrev Next : State → List ℕ → List ℕ → Type 0
-  Next Start rest bs = bs ≡ rest
-  Next Second rest bs = FromSecond rest bs
-  Next Third rest bs = FromThird rest bs
-  Next Tagged rest bs = FromTagged rest bs
-  Next Inside rest bs = FromInside rest bs
-  Next Released rest bs = FromReleased rest bs
-  Next Dead rest bs = ⊥
+  Next q rest bs = NextBy (isStart q) q rest bs
 
   on-start : (rest : List ℕ) (b : ℕ) (bs : List ℕ) (t : Bool) → isTagByte b ≡ t → Next (afterTag t Second) rest bs → FromStart rest (b ∷ bs)
   on-start rest b bs false e f = absurd f
@@ -243,20 +237,16 @@ module _ (s : Service) (good : GoodService s) where
   on-byte Released rest b bs f = on-released rest b bs (kindOf s b) (see s b) f
   on-byte Dead rest b bs f = f
 
-  next : (q : State) (rest bs : List ℕ) → (behind s q bs ≡ some rest → From q rest bs)
+  next : {q : State} → Course q → (rest bs : List ℕ) → (behind s q bs ≡ some rest → From q rest bs)
       → pick (isStart q) (some bs) (pick (isDead q) none (behind s q bs)) ≡ some rest → Next q rest bs
-  next Start rest bs ih e = some-is e
-  next Second rest bs ih e = ih e
-  next Third rest bs ih e = ih e
-  next Tagged rest bs ih e = ih e
-  next Inside rest bs ih e = ih e
-  next Released rest bs ih e = ih e
-  next Dead rest bs ih e = absurd (none-some e)
+  next ends rest bs ih e = some-is e
+  next (goes-on t d) rest bs ih e = rw t (ih (rw (t, d) at e))
+  next fails rest bs ih e = absurd (none-some e)
 
   from : (p : State) (rest bs : List ℕ) → behind s p bs ≡ some rest → From p rest bs
   unfolding behind
   from p rest [] e = absurd (none-some e)
-  from p rest (b ∷ bs) e = on-byte p rest b bs (next (stepped s p b) rest bs (from (stepped s p b) rest bs) e)
+  from p rest (b ∷ bs) e = on-byte p rest b bs (next (course (stepped s p b)) rest bs (from (stepped s p b) rest bs) e)
 
   pub segment-behind : (bs rest : List ℕ) → behind s Start bs ≡ some rest → FromStart rest bs
   segment-behind bs rest e = from Start rest bs e
