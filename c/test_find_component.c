@@ -135,13 +135,22 @@ static void test_good_segments(void)
 
 static void test_present_empty_components(void)
 {
-    FOUND("AAA+'", 0, 1, 1, 4, 0);
-    FOUND("AAA+:'", 0, 1, 1, 4, 0);
-    FOUND("AAA+:'", 0, 1, 2, 5, 0);
     FOUND("AAA++B'", 0, 1, 1, 4, 0);
     FOUND("AAA++B'", 0, 2, 1, 5, 1);
-    FOUND("AAA+B::C+'", 0, 1, 2, 6, 0);
-    FOUND("AAA+B::C+'", 0, 2, 1, 9, 0);
+    FOUND("AAA++++B'", 0, 3, 1, 6, 0);
+    FOUND("AAA++++B'", 0, 4, 1, 7, 1);
+    FOUND("AAA+:B'", 0, 1, 1, 4, 0);
+    FOUND("AAA+:B'", 0, 1, 2, 5, 1);
+    FOUND("AAA+::B'", 0, 1, 2, 5, 0);
+    FOUND("AAA+::B'", 0, 1, 3, 6, 1);
+    FOUND("AAA+B::C'", 0, 1, 2, 6, 0);
+    FOUND("AAA+B::C+D'", 0, 1, 2, 6, 0);
+    FOUND("AAA+B::C+D'", 0, 2, 1, 9, 1);
+    FOUND("AAA+B::C++:D'", 0, 2, 1, 9, 0);
+    FOUND("AAA+B::C++:D'", 0, 3, 1, 10, 0);
+    FOUND("AAA+B::C++:D'", 0, 3, 2, 11, 1);
+    FOUND("CTA+IC+:P GETTY'", 0, 2, 1, 7, 0);
+    FOUND("CTA+IC+:P GETTY'", 0, 2, 2, 8, 7);
 }
 
 static void test_absent_components(void)
@@ -158,6 +167,78 @@ static void test_absent_components(void)
     FOUND("AAA+B'", 0, SIZE_MAX, SIZE_MAX, 5, 0);
 }
 
+/* Nowhere, whichever component is asked for: the segment is not well-formed. */
+static void check_no_segment(struct source source, struct slice message, size_t at)
+{
+    for (size_t element = 1; element <= 3; element++) {
+        for (size_t component = 1; component <= 3; component++) {
+            check(source, message, at, element, component, message.length, 0);
+        }
+    }
+}
+
+#define NO_SEGMENT(text, at) check_no_segment(HERE, MESSAGE(text), at)
+
+/* `+` or `'` right behind `:`, and `'` right behind `+`. */
+static void test_needless_separators(void)
+{
+    NO_SEGMENT("AAA+'", 0);
+    NO_SEGMENT("UNS+'", 0);
+    NO_SEGMENT("AAA++'", 0);
+    NO_SEGMENT("AAA+B+'", 0);
+    NO_SEGMENT("AAA+B+++'", 0);
+    NO_SEGMENT("AAA+:'", 0);
+    NO_SEGMENT("AAA+B:'", 0);
+    NO_SEGMENT("AAA+B::'", 0);
+    NO_SEGMENT("AAA+B+C:'", 0);
+    NO_SEGMENT("AAA+:+B'", 0);
+    NO_SEGMENT("AAA+B:+C'", 0);
+    NO_SEGMENT("AAA+B::+C'", 0);
+    NO_SEGMENT("AAA+B+C:+D'", 0);
+    NO_SEGMENT("AAA+:+'", 0);
+    NO_SEGMENT("AAA+B::C+'", 0);
+}
+
+/* A segment is looked at from its tag to its end, and no further. */
+static void test_needless_separators_amid_a_message(void)
+{
+    FOUND("AAA+B'CCC+'DDD+E'", 0, 1, 1, 4, 1);
+    NO_SEGMENT("AAA+B'CCC+'DDD+E'", 6);
+    FOUND("AAA+B'CCC+'DDD+E'", 11, 1, 1, 15, 1);
+    NO_SEGMENT("AAA+B'CCC+D:'EEE'", 6);
+    NO_SEGMENT("AAA+B'CCC+D:+E'FFF'", 6);
+    FOUND("AAA+B'CCC+D:+E'FFF'", 15, 1, 1, 18, 0);
+    NO_SEGMENT("AAA+BBB+'", 4);
+    NO_SEGMENT("AAA+BBB+C:'", 4);
+    FOUND("AAA+:+BBB+C'", 6, 1, 1, 10, 1);
+    FOUND("+'BBB+C'", 2, 1, 1, 6, 1);
+    FOUND("UNS'+'", 0, 1, 1, 3, 0);
+}
+
+/* A released mark is a value's last byte, and separates nothing. Here and below each ?
+ * of a pair is written \?: C reads two of them before a quote as another character. */
+static void test_released_marks_at_an_end(void)
+{
+    FOUND("AAA+?:'", 0, 1, 1, 4, 2);
+    FOUND("AAA+?+'", 0, 1, 1, 4, 2);
+    FOUND("AAA+\?\?'", 0, 1, 1, 4, 2);
+    FOUND("AAA+?''", 0, 1, 1, 4, 2);
+    FOUND("AAA+?:+B'", 0, 2, 1, 7, 1);
+    FOUND("AAA+B:?:+C'", 0, 1, 2, 6, 2);
+    FOUND("AAA+B:?:+C'", 0, 2, 1, 9, 1);
+    FOUND("AAA+B:?+'", 0, 1, 2, 6, 2);
+    FOUND("AAA+B+?:'", 0, 2, 1, 6, 2);
+    FOUND("AAA+\?\?\?:'", 0, 1, 1, 4, 4);
+    FOUND("AAA+\?\?\?:+B'", 0, 2, 1, 9, 1);
+    NO_SEGMENT("AAA+\?\?:'", 0);
+    NO_SEGMENT("AAA+\?\?:+B'", 0);
+    NO_SEGMENT("AAA+\?\?+'", 0);
+    NO_SEGMENT("AAA+?::'", 0);
+    NO_SEGMENT("AAA+?::+B'", 0);
+    NO_SEGMENT("AAA+?++'", 0);
+    NO_SEGMENT("AAA+B:?:+'", 0);
+}
+
 static void test_number_zero(void)
 {
     NOWHERE("AAA+B'CCC'", 0, 0, 1);
@@ -169,8 +250,6 @@ static void test_number_zero(void)
     NOWHERE("UNS'CCC'", 0, 1, 0);
 }
 
-/* Each ? of a pair is written \?: C reads two of them before a quote as another
- * character. */
 static void test_released_bytes(void)
 {
     FOUND("AAA+?'B'CCC+D'", 0, 1, 1, 4, 3);
@@ -281,9 +360,20 @@ static int is_data(int byte)
     return (byte >= 0x20 && byte <= 0x7E) || byte >= 0xA0;
 }
 
+static int is_separator(int byte)
+{
+    return byte == ':' || byte == '+' || byte == '\'';
+}
+
 static int is_mark(int byte)
 {
-    return byte == ':' || byte == '+' || byte == '\'' || byte == '?';
+    return is_separator(byte) || byte == '?';
+}
+
+/* A data byte that stands for itself. */
+static int is_plain(int byte)
+{
+    return is_data(byte) && !is_mark(byte);
 }
 
 enum { LONGEST_PATTERN = 16 };
@@ -311,12 +401,26 @@ static void test_every_byte_in_every_place(void)
         check_byte(HERE, "A*A+B'", byte, is_tag_byte(byte), 4, 1);
         check_byte(HERE, "AA*+B'", byte, is_tag_byte(byte), 4, 1);
         check_byte(HERE, "AAA+B?*C'", byte, is_mark(byte), 4, 4);
-        if (!is_mark(byte)) {
-            check_byte(HERE, "AAA*B'", byte, 0, 0, 0);
-            check_byte(HERE, "AAA+*'", byte, is_data(byte), 4, 1);
-            check_byte(HERE, "AAA+B*C:D'", byte, is_data(byte), 4, 3);
-            check_byte(HERE, "AAA+B:*'", byte, is_data(byte), 4, 1);
-        }
+        check_byte(HERE, "AAA+*'", byte, is_plain(byte), 4, 1);
+        check_byte(HERE, "AAA+B:*'", byte, is_plain(byte), 4, 1);
+        check_byte(HERE, "AAA+B+*'", byte, is_plain(byte), 4, 1);
+        check_byte(HERE, "AAA+B:*C'", byte, is_plain(byte) || byte == ':', 4, 1);
+    }
+}
+
+/* Here a separator cuts the component short, or the segment before it. */
+static void test_every_byte_and_the_length(void)
+{
+    for (int byte = 0; byte <= 0xFF; byte++) {
+        int is_short = is_separator(byte);
+        check_byte(HERE, "AAA+B*C:D'", byte, is_plain(byte) || is_short, 4,
+                   is_short ? 1 : 3);
+        check_byte(HERE, "AAA+*B'", byte,
+                   is_plain(byte) || byte == ':' || byte == '+', 4, is_short ? 0 : 2);
+        check_byte(HERE, "AAA+B*'", byte, is_plain(byte) || byte == '\'', 4,
+                   is_short ? 1 : 2);
+        check_byte(HERE, "AAA*B'", byte, byte == '+' || byte == '\'',
+                   byte == '+' ? 4 : 3, byte == '+' ? 1 : 0);
     }
 }
 
@@ -383,6 +487,9 @@ int main(void)
     test_good_segments();
     test_present_empty_components();
     test_absent_components();
+    test_needless_separators();
+    test_needless_separators_amid_a_message();
+    test_released_marks_at_an_end();
     test_number_zero();
     test_released_bytes();
     test_release_faults();
@@ -393,6 +500,7 @@ int main(void)
     test_messages_cut_short();
     test_tags();
     test_every_byte_in_every_place();
+    test_every_byte_and_the_length();
     test_numbers_beyond_255('+');
     test_numbers_beyond_255(':');
     return conclude("test_find_component");

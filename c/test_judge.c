@@ -352,6 +352,83 @@ static void test_bad_bytes(void)
     REFUSED(HEAD "UNT+4+1", 4, 33);
 }
 
+/* `+` or `'` right behind `:`, and `'` right behind `+`, in the first segment, in one
+ * amid the message and in the last: the place is the later byte's. */
+static void test_needless_separators(void)
+{
+    REFUSED("UNH+'BGM+7'RFF+Z13:10001'UNT+4+1'", 4, 4);
+    REFUSED("UNH+1+'BGM+7'RFF+Z13:10001'UNT+4+1'", 4, 6);
+    REFUSED("UNH+1:'BGM+7'RFF+Z13:10001'UNT+4+1'", 4, 6);
+    REFUSED("UNH+1:+2'BGM+7'RFF+Z13:10001'UNT+4+1'", 4, 6);
+    REFUSED("UNH+1'BGM+'RFF+Z13:10001'UNT+4+1'", 4, 10);
+    REFUSED("UNH+1'BGM+7+'RFF+Z13:10001'UNT+4+1'", 4, 12);
+    REFUSED("UNH+1'BGM+7:'RFF+Z13:10001'UNT+4+1'", 4, 12);
+    REFUSED("UNH+1'BGM+7:+8'RFF+Z13:10001'UNT+4+1'", 4, 12);
+    REFUSED(HEAD "UNT+4+1+'", 4, 34);
+    REFUSED(HEAD "UNT+4+1:'", 4, 34);
+    REFUSED(HEAD "UNT+4:+1'", 4, 32);
+    REFUSED(HEAD "UNT+'", 4, 30);
+}
+
+/* Several in a row: the place is behind the last. A message that stops behind one is
+ * cut short. */
+static void test_many_needless_separators(void)
+{
+    REFUSED("UNH+1+++'BGM+7'", 4, 8);
+    REFUSED("UNH+1:::'BGM+7'", 4, 8);
+    REFUSED("UNH+1::+::'BGM+7'", 4, 7);
+    REFUSED("UNH+1++:'BGM+7'", 4, 8);
+    REFUSED("UNH+:+'", 4, 5);
+    REFUSED(HEAD "LIN+1++'UNT+5+1'", 4, 33);
+    REFUSED(HEAD "UNT+4+", 4, 32);
+    REFUSED(HEAD "UNT+4:", 4, 32);
+    REFUSED(HEAD "UNT+4+1:\n", 4, 34);
+}
+
+/* A released mark is data, and so is a released ?: an element may end with it. */
+static void test_needless_separators_behind_released_marks(void)
+{
+    const struct tree longer = {4, {0, 8, 14, 28}, {1, 2, 3, 7}, {0, 0, 0, 0}};
+    REFUSED("UNH+1?::'BGM+7'", 4, 8);
+    REFUSED("UNH+1?::+2'BGM+7'", 4, 8);
+    REFUSED("UNH+1?++'BGM+7'", 4, 8);
+    REFUSED("UNH+1\?\?:'BGM+7'", 4, 8);
+    REFUSED("UNH+1\?\?+'BGM+7'", 4, 8);
+    REFUSED(HEAD "UNT+4+?:+'", 4, 35);
+    REFUSED(HEAD "UNT+4+\?\?:'", 4, 35);
+    PLACED("UNH+1?:'BGM+7'RFF+Z13:10001'UNT+4+1?:'", NO, &longer, 0, 4, 0, 0, 0, 0);
+    PLACED("UNH+1?+'BGM+7'RFF+Z13:10001'UNT+4+1?+'", NO, &longer, 0, 4, 0, 0, 0, 0);
+    PLACED("UNH+1\?\?'BGM+7'RFF+Z13:10001'UNT+4+1\?\?'", NO, &longer, 0, 4, 0, 0, 0, 0);
+    PLACED("UNH+1?:'BGM+7'RFF+Z13:10001'UNT+4+1?:+X'", NO, &longer, 12, 4, 7, 3, 1, 0);
+}
+
+/* Empty elements and components before a value are good. */
+static void test_empty_before_a_value(void)
+{
+    const struct tree shorter = {4, {0, 6, 12, 23}, {1, 2, 3, 7}, {0, 0, 0, 0}};
+    const struct tree longer = {
+        5, {0, 6, 12, 26, 35}, {1, 2, 3, 5, 7}, {0, 0, 0, 0, 0}};
+    const struct tree of_qty = {
+        6, {0, 6, 12, 26, 32, 39}, {1, 2, 3, 5, 6, 7}, {0, 0, 0, 0, 4, 0}};
+    PLACED("UNH+1'BGM+7'RFF+:10001'UNT+4+1'", NO, &shorter, 0, 4, 0, 0, 0, 0);
+    PLACED(HEAD "LIN+1'QTY+:5'UNT+6+1'", YES, &of_qty, 0, 6, 0, 0, 0, 0);
+    PLACED(HEAD "LIN+1++X'UNT+5+1'", NO, &longer, 12, 4, 5, 3, 1, 0);
+    PLACED(HEAD "LIN+1::X'UNT+5+1'", NO, &longer, 12, 4, 5, 1, 3, 0);
+    PLACED(HEAD "LIN+1+:X'UNT+5+1'", NO, &longer, 12, 4, 5, 2, 2, 0);
+    REFUSED(HEAD "XYZ'UNT+5+1'", 10, 4);
+    REFUSED(HEAD "XYZ++:1::2'UNT+5+1'", 10, 4);
+}
+
+/* Number 4 comes before what else is wrong: 7 to 10, and tables without an entry. */
+static void test_needless_separators_come_first(void)
+{
+    REFUSED("BGM+7'RFF+Z13:10001+'", 4, 20);
+    REFUSED(HEAD "UNT+5+1+'", 4, 34);
+    REFUSED(HEAD "UNT+4+2:'", 4, 34);
+    REFUSED(HEAD "ABC+'UNT+5+1'", 4, 30);
+    check(HERE, ask(slice_of(HEAD "UNT+4+1+'"), NO, 0), answer_at(4, 34));
+}
+
 static void test_frames(void)
 {
     REFUSED("UNH+1'", 7, 1);
@@ -405,7 +482,7 @@ static void test_fields(void)
     PLACED(HEAD "LIN'UNT+5+1'", NO, &empty_lin, 12, 4, 5, 1, 1, 0);
     PLACED(HEAD "LIN+1+X'UNT+5+1'", NO, &wide_lin, 12, 4, 5, 2, 1, 0);
     PLACED(HEAD "LIN+1:X'UNT+5+1'", NO, &wide_lin, 12, 4, 5, 1, 2, 0);
-    PLACED(HEAD "LIN+1++'UNT+5+1'", NO, &wide_lin, 0, 5, 0, 0, 0, 0);
+    PLACED(HEAD "LIN++12'UNT+5+1'", NO, &wide_lin, 12, 4, 5, 1, 1, 0);
     PLACED(HEAD "LIN+-123.456'UNT+5+1'", NO, &signed_lin, 0, 5, 0, 0, 0, 0);
     PLACED(HEAD "LIN+1234567'UNT+5+1'", NO, &long_lin, 12, 4, 5, 1, 1, 0);
     PLACED(HEAD "UNT+4:4+1'", NO, &tree_of_head, 12, 4, 7, 1, 2, 0);
@@ -581,6 +658,11 @@ int main(void)
     test_bad_conditions();
     test_two_conditions();
     test_bad_bytes();
+    test_needless_separators();
+    test_many_needless_separators();
+    test_needless_separators_behind_released_marks();
+    test_empty_before_a_value();
+    test_needless_separators_come_first();
     test_frames();
     test_counts_and_references();
     test_homes();

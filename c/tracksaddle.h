@@ -162,7 +162,9 @@ uint32_t tracksaddle_judge(const uint8_t *message, size_t message_len,
  * well-formed one: a tag of three bytes (A-Z, 0-9), then elements each opened by
  * `+`, with `:` between components, then `'`. Data bytes are 0x20-0x7E and
  * 0xA0-0xFF; `?` releases `:`, `+`, `'` and `?` and may stand before nothing
- * else. What lies before the offset and after the `'` does not matter.
+ * else. A needless separator is a fault (number 4, at the byte behind it): `:` right
+ * before `+` or `'`, and `+` right before `'`. What lies before the offset and after
+ * the `'` does not matter.
  *
  * Example: in the 13 bytes AAA+B:?'C++D' with at = 0,
  *   element 1, component 2 is the part ?'C:   offset  6, length 3

@@ -20,6 +20,45 @@ static void append_byte(struct text *text, uint8_t byte)
     }
 }
 
+/* Whether the byte here is data because an odd number of ? stands right before it. */
+static bool is_released(struct message message, size_t at)
+{
+    size_t releases = 0;
+    while (releases < at && message.bytes[at - 1 - releases] == RELEASE) {
+        releases++;
+    }
+    return releases % 2 == 1;
+}
+
+/* The separator right before this place that the byte here shows to be needless: in
+ * its element nothing follows the :, or in its segment nothing follows the +.
+ * Otherwise 0. */
+static uint8_t needless_before(struct message message, size_t at)
+{
+    if (at == 0 || at == message.length || is_released(message, at - 1)) {
+        return 0;
+    }
+    uint8_t separator = message.bytes[at - 1];
+    bool ends_segment = message.bytes[at] == END;
+    bool ends_element = message.bytes[at] == ELEMENT_MARK || ends_segment;
+    bool is_needless = (separator == COMPONENT_MARK && ends_element) ||
+                       (separator == ELEMENT_MARK && ends_segment);
+    return is_needless ? separator : 0;
+}
+
+/* What is wrong behind a tag. There + and ' may always stand for themselves: if one is
+ * at fault, it is for what stands before it. */
+static const char *wrong_in_elements(struct message message, size_t at)
+{
+    switch (needless_before(message, at)) {
+    case COMPONENT_MARK: return "the : before it is a needless separator";
+    case ELEMENT_MARK: return "the + before it is a needless separator";
+    default: break;
+    }
+    return is_released(message, at) ? "? may stand only before : + ' and ?"
+                                    : "this byte is not allowed in data";
+}
+
 /* What the grammar wants at a place before which everything is well-formed. */
 static const char *wanted_at(struct message message, size_t start, size_t at)
 {
@@ -28,15 +67,8 @@ static const char *wanted_at(struct message message, size_t start, size_t at)
         return inside == 0 ? "a segment must begin here, with its tag"
                            : "a tag has three capital letters or digits";
     }
-    if (inside == TAG_LENGTH) {
-        return "+ or ' must follow the tag";
-    }
-    size_t releases = 0;
-    while (message.bytes[at - 1 - releases] == RELEASE) {
-        releases++;
-    }
-    return releases % 2 == 1 ? "? may stand only before : + ' and ?"
-                             : "this byte is not allowed in data";
+    return inside == TAG_LENGTH ? "+ or ' must follow the tag"
+                                : wrong_in_elements(message, at);
 }
 
 static bool begins_with(struct message message, const char *what)
@@ -45,8 +77,8 @@ static bool begins_with(struct message message, const char *what)
     return message.length >= length && memcmp(message.bytes, what, length) == 0;
 }
 
-/* Hints for what happens most: line breaks, an interchange, the wrong encoding, and
- * an end that looks closed. */
+/* Hints for what happens most: line breaks, needless separators, an interchange, the
+ * wrong encoding, and an end that looks closed. */
 static void add_hints(struct message message, size_t at, struct text *notes)
 {
     uint8_t byte = at < message.length ? message.bytes[at] : 0;
@@ -56,6 +88,10 @@ static void add_hints(struct message message, size_t at, struct text *notes)
     if (byte == CARRIAGE_RETURN || byte == LINE_FEED) {
         append(notes, "Nothing may stand between segments or behind the last one, no "
                       "line break either.\n");
+    }
+    if (needless_before(message, at) != 0) {
+        append(notes, "Leave out each : that no value follows in its element, and each "
+                      "+ that no value follows in its segment.\n");
     }
     if (begins_with(message, "UNA") && at == TAG_LENGTH) {
         append(notes, "The file begins with UNA: it is an interchange. A message runs "

@@ -9,7 +9,7 @@
 #include <stdint.h>
 
 /* Service characters. */
-enum { END = '\'', RELEASE = '?' };
+enum { COMPONENT_MARK = ':', ELEMENT_MARK = '+', END = '\'', RELEASE = '?' };
 
 struct message {
     const uint8_t *bytes;

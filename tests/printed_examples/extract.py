@@ -5,8 +5,9 @@
 PAPERS_DIR holds the source documents.  The files written are
 crates/printed_examples/stdin and crates/printed_examples/stdout.
 
-The reading here is written from document 01, "Bytes of a message", alone, as
-regular expressions, so that it shares no thought with the library it checks.
+The reading here is written from document 01, "Bytes of a message", with
+request T-05 of document 02, and from nothing else, as regular expressions, so
+that it shares no thought with the library it checks.
 """
 
 import re
@@ -50,20 +51,24 @@ def examples_of(document, count):
     return examples
 
 
-# ---- The grammar of document 01 ----
+# ---- The grammar of document 01, without needless separators (T-05) ----
 
 # A data byte that stands for itself: 0x20-0x7E and 0xA0-0xFF without ' + : ?
 PLAIN = rb"[\x20-\x26\x28-\x2A\x2C-\x39\x3B-\x3E\x40-\x7E\xA0-\xFF]"
 RELEASED = rb"\?['+:?]"
 COMPONENT = rb"(?:%b|%b)*" % (PLAIN, RELEASED)
-ELEMENT = rb"%b(?::%b)*" % (COMPONENT, COMPONENT)
-SEGMENT = rb"[A-Z0-9]{3}(?:\+%b)*'" % ELEMENT
+FILLED_COMPONENT = rb"(?:%b|%b)+" % (PLAIN, RELEASED)
+# An element's last component has bytes, unless it is the only one; a segment's
+# last element has bytes.
+FILLED_ELEMENT = rb"(?:%b:)*%b" % (COMPONENT, FILLED_COMPONENT)
+ELEMENT = rb"(?:%b)?" % FILLED_ELEMENT
+SEGMENT = rb"[A-Z0-9]{3}(?:(?:\+%b)*\+%b)?'" % (ELEMENT, FILLED_ELEMENT)
 MESSAGE = rb"(?:%b)+" % SEGMENT
 
 # A beginning of a message stands in one of five places, and each of these
 # endings makes a whole message of the beginnings in one of them: after a
-# segment; after a tag's third byte or within elements; after its second byte;
-# after its first; after a releasing `?`.
+# segment; after a tag's third byte or a component's bytes; after a tag's second
+# byte or a separator; after a tag's first byte; after a releasing `?`.
 ENDINGS = [b"", b"'", b"A'", b"AA'", b"?'"]
 
 
@@ -119,12 +124,32 @@ def check_the_reading():
     # `?'` is no segment end, `??'` is one.
     assert output_lines(1, b"BGM+7?'") == [b"1 not a segment: place 7"]
     assert output_lines(1, b"BGM+7??'") == [b"1 BGM", b"  1.1 7?"]
-    # Trailing empty elements and components, no element, a byte above 0x7E.
-    assert output_lines(1, b"BGM+:+'") == [b"1 BGM", b"  1.1 ", b"  1.2 ", b"  2.1 "]
+    # No element, a byte above 0x7E.
     assert output_lines(1, b"UNS'") == [b"1 UNS"]
     assert output_lines(1, b"FTX+\xFC\x9F'") == [b"1 not a segment: place 5"]
     assert output_lines(1, b"UNH+1'BGM+7'") == [
         b"1 2 segments", b"  UNH", b"    1.1 1", b"  BGM", b"    1.1 7"]
+    check_needless_separators()
+
+
+def check_needless_separators():
+    """T-05: `+` or `'` behind `:`, and `'` behind `+`, is a fault at the later byte."""
+    places = {
+        b"UNS+'": 4, b"BGM+7+'": 6, b"BGM+7++'": 7, b"BGM+7:'": 6, b"BGM+7::'": 7,
+        b"BGM+7:+8'": 6, b"BGM+:+'": 5, b"BGM+::+8'": 6, b"UNH+1'BGM+7:+8'UNT'": 12,
+        # A released mark is data, and so is a released `?`.
+        b"BGM+7?::'": 8, b"BGM+7??:'": 8, b"BGM+7?:+'": 8, b"BGM+7???::+8'": 10,
+        # A message that stops behind a separator is cut short.
+        b"BGM+": 4, b"BGM+7+": 6, b"BGM+7:": 6, b"BGM+7+:": 7,
+    }
+    for line, place in places.items():
+        assert output_lines(1, line) == [b"1 not a segment: place %d" % place], line
+    assert output_lines(1, b"BGM+7?:'") == [b"1 BGM", b"  1.1 7:"]
+    assert output_lines(1, b"BGM+7:?:+?+'") == [
+        b"1 BGM", b"  1.1 7", b"  1.2 :", b"  2.1 +"]
+    # Empty elements and components before a value are good.
+    assert output_lines(1, b"BGM++:7+::8'") == [
+        b"1 BGM", b"  1.1 ", b"  2.1 ", b"  2.2 7", b"  3.1 ", b"  3.2 ", b"  3.3 8"]
 
 
 def write_lines(path, lines):

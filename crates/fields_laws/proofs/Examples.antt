@@ -37,9 +37,9 @@ abbrev marks : ℕ → List ℕ → List ℕ
 marks zero rest = rest
 marks (suc n) rest = 58 ∷ marks n rest
 
--- 01's head of the bench messages, then `LIN+1'LIN+1,5'UNT+5+'`
+-- 01's head of the bench messages, then `LIN+1'LIN+1,5'UNT+5++1'`
 abbrev message : List ℕ
-message = 85 ∷ 78 ∷ 72 ∷ 43 ∷ 49 ∷ 39 ∷ 66 ∷ 71 ∷ 77 ∷ 43 ∷ 55 ∷ 39 ∷ 82 ∷ 70 ∷ 70 ∷ 43 ∷ 90 ∷ 49 ∷ 51 ∷ 58 ∷ 49 ∷ 48 ∷ 48 ∷ 48 ∷ 49 ∷ 39 ∷ 76 ∷ 73 ∷ 78 ∷ 43 ∷ 49 ∷ 39 ∷ 76 ∷ 73 ∷ 78 ∷ 43 ∷ 49 ∷ 44 ∷ 53 ∷ 39 ∷ 85 ∷ 78 ∷ 84 ∷ 43 ∷ 53 ∷ 43 ∷ 39 ∷ []
+message = 85 ∷ 78 ∷ 72 ∷ 43 ∷ 49 ∷ 39 ∷ 66 ∷ 71 ∷ 77 ∷ 43 ∷ 55 ∷ 39 ∷ 82 ∷ 70 ∷ 70 ∷ 43 ∷ 90 ∷ 49 ∷ 51 ∷ 58 ∷ 49 ∷ 48 ∷ 48 ∷ 48 ∷ 49 ∷ 39 ∷ 76 ∷ 73 ∷ 78 ∷ 43 ∷ 49 ∷ 39 ∷ 76 ∷ 73 ∷ 78 ∷ 43 ∷ 49 ∷ 44 ∷ 53 ∷ 39 ∷ 85 ∷ 78 ∷ 84 ∷ 43 ∷ 53 ∷ 43 ∷ 43 ∷ 49 ∷ 39 ∷ []
 
 abbrev starts : List ℕ
 starts = 0 ∷ 6 ∷ 12 ∷ 26 ∷ 32 ∷ 40 ∷ []
@@ -55,8 +55,8 @@ pub record Table : Type 0 where
   lin-comma : of k (76 ∷ 73 ∷ 78 ∷ 43 ∷ 49 ∷ 44 ∷ 53 ∷ 39 ∷ []) 5 ≡ At 1 1
   -- `LIN'`
   lin-missing : of k (76 ∷ 73 ∷ 78 ∷ 39 ∷ []) 5 ≡ At 1 1
-  -- `LIN+'`
-  lin-empty : of k (76 ∷ 73 ∷ 78 ∷ 43 ∷ 39 ∷ []) 5 ≡ At 1 1
+  -- `LIN++1'`
+  lin-empty : of k (76 ∷ 73 ∷ 78 ∷ 43 ∷ 43 ∷ 49 ∷ 39 ∷ []) 5 ≡ At 1 1
   -- `LIN+-12345.6'`
   lin-six : of k (76 ∷ 73 ∷ 78 ∷ 43 ∷ 45 ∷ 49 ∷ 50 ∷ 51 ∷ 52 ∷ 53 ∷ 46 ∷ 54 ∷ 39 ∷ []) 5 ≡ Clean
   -- `LIN+-12345.67'`
@@ -77,12 +77,16 @@ pub record Table : Type 0 where
   rff : of k (82 ∷ 70 ∷ 70 ∷ 43 ∷ 90 ∷ 49 ∷ 51 ∷ 58 ∷ 49 ∷ 48 ∷ 48 ∷ 48 ∷ 49 ∷ 39 ∷ []) 3 ≡ Clean
   -- `RFF+Z13'`
   rff-absent : of k (82 ∷ 70 ∷ 70 ∷ 43 ∷ 90 ∷ 49 ∷ 51 ∷ 39 ∷ []) 3 ≡ At 1 2
-  -- `RFF+Z13:'`
-  rff-empty : of k (82 ∷ 70 ∷ 70 ∷ 43 ∷ 90 ∷ 49 ∷ 51 ∷ 58 ∷ 39 ∷ []) 3 ≡ At 1 2
+  -- `RFF+Z13::1'`
+  rff-empty : of k (82 ∷ 70 ∷ 70 ∷ 43 ∷ 90 ∷ 49 ∷ 51 ∷ 58 ∷ 58 ∷ 49 ∷ 39 ∷ []) 3 ≡ At 1 2
   -- `RFF+Z13:10001:1'`
   rff-unnamed : of k (82 ∷ 70 ∷ 70 ∷ 43 ∷ 90 ∷ 49 ∷ 51 ∷ 58 ∷ 49 ∷ 48 ∷ 48 ∷ 48 ∷ 49 ∷ 58 ∷ 49 ∷ 39 ∷ []) 3 ≡ At 1 3
-  -- `RFF+Z13:10001::++:'`
-  rff-trailing : of k (82 ∷ 70 ∷ 70 ∷ 43 ∷ 90 ∷ 49 ∷ 51 ∷ 58 ∷ 49 ∷ 48 ∷ 48 ∷ 48 ∷ 49 ∷ 58 ∷ 58 ∷ 43 ∷ 43 ∷ 58 ∷ 39 ∷ []) 3 ≡ Clean
+  -- `RFF+:10001'`
+  rff-may-be-empty : of k (82 ∷ 70 ∷ 70 ∷ 43 ∷ 58 ∷ 49 ∷ 48 ∷ 48 ∷ 48 ∷ 49 ∷ 39 ∷ []) 3 ≡ Clean
+  -- `RFF+Z13:10001::1'`
+  rff-behind-empty-component : of k (82 ∷ 70 ∷ 70 ∷ 43 ∷ 90 ∷ 49 ∷ 51 ∷ 58 ∷ 49 ∷ 48 ∷ 48 ∷ 48 ∷ 49 ∷ 58 ∷ 58 ∷ 49 ∷ 39 ∷ []) 3 ≡ At 1 4
+  -- `RFF+Z13:10001++:1'`
+  rff-behind-empty-elements : of k (82 ∷ 70 ∷ 70 ∷ 43 ∷ 90 ∷ 49 ∷ 51 ∷ 58 ∷ 49 ∷ 48 ∷ 48 ∷ 48 ∷ 49 ∷ 43 ∷ 43 ∷ 58 ∷ 49 ∷ 39 ∷ []) 3 ≡ At 3 2
   -- `QTY+145:5'`
   qty : of k (81 ∷ 84 ∷ 89 ∷ 43 ∷ 49 ∷ 52 ∷ 53 ∷ 58 ∷ 53 ∷ 39 ∷ []) 6 ≡ Clean
   -- `QTY+145:x'`
@@ -107,8 +111,10 @@ pub record Table : Type 0 where
   nad-other-code : of second (78 ∷ 65 ∷ 68 ∷ 43 ∷ 68 ∷ 80 ∷ 43 ∷ 88 ∷ 58 ∷ 58 ∷ 57 ∷ 39 ∷ []) 8 ≡ At 2 3
   -- `NAD+MS'`
   nad-no-code : of second (78 ∷ 65 ∷ 68 ∷ 43 ∷ 77 ∷ 83 ∷ 39 ∷ []) 8 ≡ At 1 1
-  -- `STS+Z:::'`
-  sts-far : of second (83 ∷ 84 ∷ 83 ∷ 43 ∷ 90 ∷ 58 ∷ 58 ∷ 58 ∷ 39 ∷ []) 21 ≡ Clean
+  -- `CCI+++Z15::9'`
+  cci-empty-unnamed : of second (67 ∷ 67 ∷ 73 ∷ 43 ∷ 43 ∷ 43 ∷ 90 ∷ 49 ∷ 53 ∷ 58 ∷ 58 ∷ 57 ∷ 39 ∷ []) 18 ≡ Clean
+  -- `STS+Z:::X'`
+  sts-far : of second (83 ∷ 84 ∷ 83 ∷ 43 ∷ 90 ∷ 58 ∷ 58 ∷ 58 ∷ 88 ∷ 39 ∷ []) 21 ≡ At 1 4
   -- `STS+Z` with 299 component marks and `X`: the component 300
   sts-three-hundred : of second (83 ∷ 84 ∷ 83 ∷ 43 ∷ 90 ∷ marks 299 (88 ∷ 39 ∷ [])) 21 ≡ At 1 300
   -- the first place at fault, counted from 1, with its line; as far as the tables reach
@@ -136,7 +142,9 @@ bench =
       rff-absent = refl;
       rff-empty = refl;
       rff-unnamed = refl;
-      rff-trailing = refl;
+      rff-may-be-empty = refl;
+      rff-behind-empty-component = refl;
+      rff-behind-empty-elements = refl;
       qty = refl;
       qty-text = refl;
       unt-absent = refl;
@@ -149,6 +157,7 @@ bench =
       nad-must-not = refl;
       nad-other-code = refl;
       nad-no-code = refl;
+      cci-empty-unnamed = refl;
       sts-far = refl;
       sts-three-hundred = refl;
       fifth = refl;
@@ -167,7 +176,8 @@ comma-there =
       valid =
           record {
             tag = record { first = refl; second = refl; third = refl };
-            elements = (record { first = (refl, (refl, (refl, tt))); more = tt }, tt);
+            elements = (record { first = (refl, (refl, (refl, tt))); more = tt; ended = tt }, tt);
+            ended = tt;
           };
       rest = [];
       same = refl;

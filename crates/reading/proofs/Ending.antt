@@ -1,23 +1,23 @@
 -- Where a segment's end can lie: it has at least its tag and its terminator, and lies within the bytes. Then how the search for it
 -- goes on, byte by byte, and what its number says.
-use Prim.Native.Nat.{ℕ, suc, _+_, _≤_, _<_}
+use Prim.Native.Nat.{ℕ, suc, _+_, _-_, _≤_, _<_}
 use native.Mathlib.Omega.{arith}
 use native.Mathlib.Numerals.{add-one}
-use mathlib.Core.Path.{_≡_, refl, sym, ap, _∙_}
+use mathlib.Core.Path.{_≡_, refl, sym, ap, ap₂, _∙_}
 use mathlib.Core.List.{List, [], _∷_}
 use mathlib.Core.Bool.{Bool, true, false, true≢false, not, _&&_, _||_}
-use lib.Dec.{eqb, ltb}
+use lib.Dec.{eqb, leb, ltb}
 use lib.ListN.{length, getD, drop, length-drop, drop-of-length-le}
 use lib.Seq.{drop-cons}
-use borrow.Author.Tests.{ltb-true, ltb-false}
+use borrow.Author.Tests.{ltb-true, ltb-false, lt-ltb, le-ltb}
 use Rattle.reading.specs.meaning.Service.{isData, isTagByte, mustRelease}
-use Rattle.reading.specs.method.Machine.{pick, kindOf, afterTag, afterTagged, afterInside, afterReleased, stepped, isText, isStart, isDead, endOn, segmentEnd, orLength}
-use Rattle.reading.specs.method.Kept.{TagOrNone}
+use Rattle.reading.specs.method.Machine.{pick, kindOf, afterTag, afterTagged, afterOpened, afterParted, afterInside, afterReleased, stepped, isText, isStart, isDead, endOn, segmentEnd, orLength}
+use Rattle.reading.specs.method.Kept.{TagOrNone, Passed, heldBy, openedBy, markedBy}
 use Rattle.reading.specs.declared.service.Service.{Service}
 use Rattle.reading.specs.declared.bytes.Kind.{Kind}
 use Rattle.reading.specs.declared.bytes.Kind.the-variants.{Component, Element, Terminator, Release, Plain, Other}
 use Rattle.reading.specs.declared.machine.State.{State}
-use Rattle.reading.specs.declared.machine.State.the-variants.{Start, Second, Third, Tagged, Inside, Released, Dead}
+use Rattle.reading.specs.declared.machine.State.the-variants.{Start, Second, Third, Tagged, Opened, Parted, Inside, Released, Dead}
 use Rattle.reading.specs.declared.cursor.End.{End}
 use Rattle.reading.specs.declared.cursor.End.the-variants.{At, Nowhere}
 use Rattle.reading.proofs.States.{Course, ends, goes-on, fails, course}
@@ -30,6 +30,8 @@ least Start = 3
 least Second = 2
 least Third = 1
 least Tagged = 0
+least Opened = 0
+least Parted = 0
 least Inside = 0
 least Released = 0
 least Dead = 0
@@ -47,6 +49,8 @@ nearer s Start b = nearer-tag (isTagByte b) Second 3 refl (omega arith)
 nearer s Second b = nearer-tag (isTagByte b) Third 2 refl (omega arith)
 nearer s Third b = nearer-tag (isTagByte b) Tagged 1 refl (omega arith)
 nearer s Tagged b = λ d. omega arith
+nearer s Opened b = λ d. omega arith
+nearer s Parted b = λ d. omega arith
 nearer s Inside b = λ d. omega arith
 nearer s Released b = λ d. omega arith
 nearer s Dead b = λ d. omega arith
@@ -101,18 +105,74 @@ end-untold s bs at n e h = go (segmentEnd s bs at) refl
 
 -- ---- what a byte is to a segment's text
 
-inside-by : (r c e t d : Bool) → not r && (not t && d) ≡ true
-    → afterInside (pick r Release (pick c Component (pick e Element (pick t Terminator (pick d Plain Other))))) ≡ Inside
-inside-by true c e t d h = absurd (true≢false (sym h))
-inside-by false true e t d h = refl
-inside-by false false true t d h = refl
-inside-by false false false true d h = absurd (true≢false (sym h))
-inside-by false false false false true h = refl
-inside-by false false false false false h = absurd (true≢false (sym h))
+-- how it moves the state that two flags stand for
+abbrev afterHeld : Bool → Bool → Kind → State
+afterHeld opened true k = afterParted k
+afterHeld true false k = afterOpened k
+afterHeld false false k = afterInside k
 
-text-inside : (s : Service) (b : ℕ) → isText s b ≡ true → stepped s Inside b ≡ Inside
-unfolding isText kindOf
-text-inside s b h = inside-by (eqb b (s .release)) (eqb b (s .component)) (eqb b (s .element)) (eqb b (s .terminator)) (isData b) h
+held-step : (s : Service) (opened parted : Bool) (b : ℕ) → stepped s (heldBy opened parted) b ≡ afterHeld opened parted (kindOf s b)
+held-step s opened true b = refl
+held-step s true false b = refl
+held-step s false false b = refl
+
+-- text leaves flags for flags
+text-by : (after : Kind → State) → after Component ≡ Parted → after Plain ≡ Inside → (low high more r c e t : Bool)
+    → low && (high && (not t && (not e && not r))) ≡ true
+    → after (pick r Release (pick c Component (pick e Element (pick t Terminator (pick ((low && high) || more) Plain Other))))) ≡ heldBy false c
+text-by after x y false high more r c e t h = absurd (true≢false (sym h))
+text-by after x y true false more r c e t h = absurd (true≢false (sym h))
+text-by after x y true true more r c e true h = absurd (true≢false (sym h))
+text-by after x y true true more r c true false h = absurd (true≢false (sym h))
+text-by after x y true true more true c false false h = absurd (true≢false (sym h))
+text-by after x y true true more false true false false h = x
+text-by after x y true true more false false false false h = y
+
+text-held : (s : Service) (opened parted : Bool) (b : ℕ) → isText s b ≡ true → afterHeld opened parted (kindOf s b) ≡ heldBy false (eqb b (s .component))
+unfolding isText kindOf isData
+text-held s opened parted b h = go opened parted
+  where
+    by : (after : Kind → State) → after Component ≡ Parted → after Plain ≡ Inside → after (kindOf s b) ≡ heldBy false (eqb b (s .component))
+    by after x y =
+        text-by after x y (leb 0x20 b) (leb b 0x7e) (leb 0xa0 b && leb b 0xff)
+        (eqb b (s .release)) (eqb b (s .component)) (eqb b (s .element)) (eqb b (s .terminator)) h
+
+    go : (x y : Bool) → afterHeld x y (kindOf s b) ≡ heldBy false (eqb b (s .component))
+    go x true = by afterParted refl refl
+    go true false = by afterOpened refl refl
+    go false false = by afterInside refl refl
+
+-- a byte of a known kind
+held-component : (opened parted : Bool) → afterHeld opened parted Component ≡ heldBy false true
+held-component opened true = refl
+held-component true false = refl
+held-component false false = refl
+
+held-element : (opened parted : Bool) → afterHeld opened parted Element ≡ pick parted Dead Opened
+held-element opened true = refl
+held-element true false = refl
+held-element false false = refl
+
+held-terminator : (opened parted : Bool) → afterHeld opened parted Terminator ≡ pick (opened || parted) Dead Start
+held-terminator true true = refl
+held-terminator false true = refl
+held-terminator true false = refl
+held-terminator false false = refl
+
+held-release : (opened parted : Bool) → afterHeld opened parted Release ≡ Released
+held-release opened true = refl
+held-release true false = refl
+held-release false false = refl
+
+held-plain : (opened parted : Bool) → afterHeld opened parted Plain ≡ heldBy false false
+held-plain opened true = refl
+held-plain true false = refl
+held-plain false false = refl
+
+held-other : (opened parted : Bool) → afterHeld opened parted Other ≡ Dead
+held-other opened true = refl
+held-other true false = refl
+held-other false false = refl
 
 released-by : (r c e t d : Bool)
     → afterReleased (pick r Release (pick c Component (pick e Element (pick t Terminator (pick d Plain Other))))) ≡ pick (r || (c || (e || t))) Inside Dead
@@ -144,37 +204,137 @@ module _ (s : Service) (bs : List ℕ) where
   end-at : (p : State) (m n : ℕ) → m ≡ n → endOn s p m (drop m bs) ≡ endOn s p n (drop n bs)
   end-at p m n e = ap (λ (k : ℕ). endOn s p k (drop k bs)) e
 
+  -- in a state that flags stand for
+  held-turn : (opened parted x y : Bool) (at : ℕ) → at < length bs → afterHeld opened parted (kindOf s (getD bs at 0)) ≡ heldBy x y
+      → endOn s (heldBy opened parted) at (drop at bs) ≡ endOn s (heldBy x y) (at + 1) (drop (at + 1) bs)
+  held-turn opened parted x y at h e = end-turn (heldBy opened parted) (heldBy x y) at h (held-step s opened parted (getD bs at 0) ∙ e) ∙ go x y
+    where
+      go : (x y : Bool) → pick (isStart (heldBy x y)) (At at) (pick (isDead (heldBy x y)) Nowhere (endOn s (heldBy x y) (at + 1) (drop (at + 1) bs)))
+          ≡ endOn s (heldBy x y) (at + 1) (drop (at + 1) bs)
+      go x true = refl
+      go true false = refl
+      go false false = refl
+
+  -- ---- text is passed
+
   module _ (from : ℕ) where
-    -- inside an element: what is found from here on is what is found from the beginning
-    abbrev pub Ending : ℕ → Type 0
-    Ending at = endOn s Inside at (drop at bs) ≡ endOn s Inside from (drop from bs)
+    pub passed-none : Passed s bs from from
+    passed-none =
+        record {
+          onward = omega arith;
+          same = λ opened parted. ap₂ (λ (x y : Bool). endOn s (heldBy x y) from (drop from bs)) (still-opened opened) (still-parted parted);
+        }
+      where
+        still-opened : (x : Bool) → x ≡ openedBy from from x
+        still-opened x = sym (ap (λ (y : Bool). pick y false x) (le-ltb from from (omega arith)))
 
-    pub ending-out : (at : ℕ) → length bs ≤ at → Ending at → length bs ≡ orLength bs (endOn s Inside from (drop from bs))
-    ending-out at h i = ap (orLength bs) (sym (end-out Inside at h) ∙ i)
+        still-parted : (x : Bool) → x ≡ markedBy s bs from from x
+        still-parted x = sym (ap (λ (y : Bool). pick y (eqb (getD bs (from - 1) 0) (s .component)) x) (le-ltb from from (omega arith)))
 
-    module _ (at : ℕ) (h : at < length bs) (i : Ending at) where
-      pub ending-text : isText s (getD bs at 0) ≡ true → Ending (at + 1)
-      ending-text t = sym (end-turn Inside Inside at h (text-inside s (getD bs at 0) t)) ∙ i
+    pub passed-on : (at : ℕ) → at < length bs → Passed s bs from at → isText s (getD bs at 0) ≡ true → Passed s bs from (at + 1)
+    passed-on at h i t =
+        let w = i .onward in
+        record {
+          onward = omega arith;
+          same = λ opened parted.
+              i .same opened parted
+              ∙ held-turn (openedBy from at opened) (markedBy s bs from at parted) false (eqb (getD bs at 0) (s .component)) at h
+              (text-held s (openedBy from at opened) (markedBy s bs from at parted) (getD bs at 0) t)
+              ∙ ap₂ (λ (x y : Bool). endOn s (heldBy x y) (at + 1) (drop (at + 1) bs)) (no-longer-opened opened (omega arith)) (parted-now parted (omega arith));
+        }
+      where
+        no-longer-opened : (x : Bool) → from < at + 1 → false ≡ openedBy from (at + 1) x
+        no-longer-opened x l = sym (ap (λ (y : Bool). pick y false x) (lt-ltb from (at + 1) l))
+
+        parted-now : (x : Bool) → from < at + 1 → eqb (getD bs at 0) (s .component) ≡ markedBy s bs from (at + 1) x
+        parted-now x l =
+            let k : at ≡ at + 1 - 1 = omega arith in
+            ap (λ (n : ℕ). eqb (getD bs n 0) (s .component)) k
+            ∙ sym (ap (λ (y : Bool). pick y (eqb (getD bs (at + 1 - 1) 0) (s .component)) x) (lt-ltb from (at + 1) l))
+
+  -- ---- what ends a text
+
+  module _ (from : ℕ) where
+    abbrev wanted : ℕ
+    wanted = orLength bs (endOn s Opened from (drop from bs))
+
+    -- behind an element's mark: what is found from here on is what is found from the beginning
+    abbrev pub Ending : Bool → Bool → ℕ → Type 0
+    Ending opened parted at = endOn s (heldBy opened parted) at (drop at bs) ≡ endOn s Opened from (drop from bs)
+
+    pub ending-out : (opened parted : Bool) (at : ℕ) → length bs ≤ at → Ending opened parted at → length bs ≡ wanted
+    ending-out opened parted at h i = ap (orLength bs) (sym (end-out (heldBy opened parted) at h) ∙ i)
+
+    -- text up to the end
+    pub ending-none : (opened parted : Bool) (next at : ℕ) → Ending opened parted next → Passed s bs next at → length bs ≤ at → length bs ≡ wanted
+    ending-none opened parted next at j p h =
+        ap (orLength bs) (sym (p .same opened parted ∙ end-out (heldBy (openedBy next at opened) (markedBy s bs next at parted)) at h) ∙ j)
+
+    -- text has been passed from `next` on, and at `at` something else stands
+    module _ (was-opened was-parted : Bool) (next at : ℕ) (j : Ending was-opened was-parted next) (p : Passed s bs next at) (h : at < length bs) where
+      abbrev opened : Bool
+      opened = openedBy next at was-opened
+
+      abbrev parted : Bool
+      parted = markedBy s bs next at was-parted
+
+      i : Ending opened parted at
+      i = sym (p .same was-opened was-parted) ∙ j
+
+      -- a mark of either kind
+      either : opened || parted ≡ markedBy s bs next at (was-opened || was-parted)
+      either = go (ltb next at)
+        where
+          go : (t : Bool) → pick t false was-opened || pick t (eqb (getD bs (at - 1) 0) (s .component)) was-parted
+              ≡ pick t (eqb (getD bs (at - 1) 0) (s .component)) (was-opened || was-parted)
+          go true = refl
+          go false = refl
 
       -- a byte of a known kind
       module _ (kind : Kind) (k : kind ≡ kindOf s (getD bs at 0)) where
-        pub ending-on : (known : Kind) → kind ≡ known → afterInside known ≡ Inside → Ending (at + 1)
-        ending-on known is e = sym (end-turn Inside Inside at h (ap afterInside (sym k ∙ is) ∙ e)) ∙ i
+        ending-on : (known : Kind) (x y : Bool) → kind ≡ known → afterHeld opened parted known ≡ heldBy x y → Ending x y (at + 1)
+        ending-on known x y is e = sym (held-turn opened parted x y at h (ap (afterHeld opened parted) (sym k ∙ is) ∙ e)) ∙ i
 
-        pub ending-found : kind ≡ Terminator → at ≡ orLength bs (endOn s Inside from (drop from bs))
-        ending-found is = ap (orLength bs) (sym (end-turn Inside Start at h (ap afterInside (sym k ∙ is))) ∙ i)
+        ending-by : (known : Kind) (q : State) → kind ≡ known → afterHeld opened parted known ≡ q
+            → pick (isStart q) (At at) (pick (isDead q) Nowhere (endOn s q (at + 1) (drop (at + 1) bs))) ≡ endOn s Opened from (drop from bs)
+        ending-by known q is e =
+            sym (end-turn (heldBy opened parted) q at h (held-step s opened parted (getD bs at 0) ∙ ap (afterHeld opened parted) (sym k ∙ is) ∙ e)) ∙ i
 
-        pub ending-bad : kind ≡ Other → length bs ≡ orLength bs (endOn s Inside from (drop from bs))
-        ending-bad is = ap (orLength bs) (sym (end-turn Inside Dead at h (ap afterInside (sym k ∙ is))) ∙ i)
+        pub ending-component : kind ≡ Component → Ending false true (at + 1)
+        ending-component is = ending-on Component false true is (held-component opened parted)
+
+        -- the element may end here, if no needless mark stands before
+        module _ (marked : Bool) (m : marked ≡ parted) (is : kind ≡ Element) where
+          pub ending-element : marked ≡ false → Ending true false (at + 1)
+          ending-element e = ending-on Element true false is (held-element opened parted ∙ ap (λ (x : Bool). pick x Dead Opened) (sym m ∙ e))
+
+          pub ending-parted : marked ≡ true → length bs ≡ wanted
+          ending-parted e = ap (orLength bs) (ending-by Element Dead is (held-element opened parted ∙ ap (λ (x : Bool). pick x Dead Opened) (sym m ∙ e)))
+
+        -- and so may the segment
+        module _ (marked : Bool) (m : marked ≡ markedBy s bs next at (was-opened || was-parted)) (is : kind ≡ Terminator) where
+          pub ending-found : marked ≡ false → at ≡ wanted
+          ending-found e =
+              ap (orLength bs) (ending-by Terminator Start is (held-terminator opened parted ∙ ap (λ (x : Bool). pick x Dead Start) (either ∙ sym m ∙ e)))
+
+          pub ending-marked : marked ≡ true → length bs ≡ wanted
+          ending-marked e =
+              ap (orLength bs) (ending-by Terminator Dead is (held-terminator opened parted ∙ ap (λ (x : Bool). pick x Dead Start) (either ∙ sym m ∙ e)))
+
+        pub ending-plain : kind ≡ Plain → Ending false false (at + 1)
+        ending-plain is = ending-on Plain false false is (held-plain opened parted)
+
+        pub ending-bad : kind ≡ Other → length bs ≡ wanted
+        ending-bad is = ap (orLength bs) (ending-by Other Dead is (held-other opened parted))
 
         -- a release: the byte behind it decides
-        behind-release : kind ≡ Release → endOn s Released (at + 1) (drop (at + 1) bs) ≡ endOn s Inside from (drop from bs)
-        behind-release is = sym (end-turn Inside Released at h (ap afterInside (sym k ∙ is))) ∙ i
+        behind-release : kind ≡ Release → endOn s Released (at + 1) (drop (at + 1) bs) ≡ endOn s Opened from (drop from bs)
+        behind-release is = ending-by Release Released is (held-release opened parted)
 
-        pub ending-released : kind ≡ Release → (ltb (at + 1) (length bs) && mustRelease s (getD bs (at + 1) 0)) ≡ true → Ending (at + 2)
+        pub ending-released : kind ≡ Release → (ltb (at + 1) (length bs) && mustRelease s (getD bs (at + 1) 0)) ≡ true → Ending false false (at + 2)
         ending-released is e = go (ltb (at + 1) (length bs)) (mustRelease s (getD bs (at + 1) 0)) refl refl e
           where
-            go : (x y : Bool) → ltb (at + 1) (length bs) ≡ x → mustRelease s (getD bs (at + 1) 0) ≡ y → (x && y) ≡ true → Ending (at + 2)
+            go : (x y : Bool) → ltb (at + 1) (length bs) ≡ x → mustRelease s (getD bs (at + 1) 0) ≡ y → (x && y) ≡ true → Ending false false (at + 2)
             go true true a b c =
                 end-at Inside (at + 2) (at + 1 + 1) (omega arith)
                 ∙ sym (end-turn Released Inside (at + 1) (ltb-true _ _ a) (after-release s (getD bs (at + 1) 0) ∙ ap (λ (z : Bool). pick z Inside Dead) b))
@@ -182,8 +342,7 @@ module _ (s : Service) (bs : List ℕ) where
             go true false a b c = absurd (true≢false (sym c))
             go false y a b c = absurd (true≢false (sym c))
 
-        pub ending-unreleased : kind ≡ Release → (ltb (at + 1) (length bs) && mustRelease s (getD bs (at + 1) 0)) ≡ false
-            → length bs ≡ orLength bs (endOn s Inside from (drop from bs))
+        pub ending-unreleased : kind ≡ Release → (ltb (at + 1) (length bs) && mustRelease s (getD bs (at + 1) 0)) ≡ false → length bs ≡ wanted
         ending-unreleased is e = ap (orLength bs) (sym (go (ltb (at + 1) (length bs)) (mustRelease s (getD bs (at + 1) 0)) refl refl e) ∙ behind-release is)
           where
             go : (x y : Bool) → ltb (at + 1) (length bs) ≡ x → mustRelease s (getD bs (at + 1) 0) ≡ y → (x && y) ≡ false
@@ -197,10 +356,10 @@ module _ (s : Service) (bs : List ℕ) where
 
   module _ (at : ℕ) (h : at + 4 ≤ length bs) (tag : segmentEnd s bs at ≡ endOn s Tagged (at + 3) (drop (at + 3) bs))
       (kind : Kind) (k : kind ≡ kindOf s (getD bs (at + 3) 0)) where
-    pub tagged-inside : kind ≡ Element → (n : ℕ) → n ≡ orLength bs (endOn s Inside (at + 4) (drop (at + 4) bs)) → n ≡ orLength bs (segmentEnd s bs at)
-    tagged-inside is n e =
+    pub tagged-opened : kind ≡ Element → (n : ℕ) → n ≡ orLength bs (endOn s Opened (at + 4) (drop (at + 4) bs)) → n ≡ orLength bs (segmentEnd s bs at)
+    tagged-opened is n e =
         e ∙ ap (orLength bs)
-        (sym (tag ∙ end-turn Tagged Inside (at + 3) (omega arith) (ap afterTagged (sym k ∙ is)) ∙ end-at Inside (at + 3 + 1) (at + 4) (omega arith)))
+        (sym (tag ∙ end-turn Tagged Opened (at + 3) (omega arith) (ap afterTagged (sym k ∙ is)) ∙ end-at Opened (at + 3 + 1) (at + 4) (omega arith)))
 
     pub tagged-found : kind ≡ Terminator → at + 3 ≡ orLength bs (segmentEnd s bs at)
     tagged-found is = ap (orLength bs) (sym (tag ∙ end-turn Tagged Start (at + 3) (omega arith) (ap afterTagged (sym k ∙ is))))

@@ -5,7 +5,7 @@ use mathlib.Core.Path.{_≡_, refl, ap}
 use mathlib.Core.Bool.{Bool, false}
 use Rattle.reading.specs.method.Machine.{pick, isStart, isDead, ended}
 use Rattle.reading.specs.declared.machine.State.{State}
-use Rattle.reading.specs.declared.machine.State.the-variants.{Start, Second, Third, Tagged, Inside, Released, Dead}
+use Rattle.reading.specs.declared.machine.State.the-variants.{Start, Second, Third, Tagged, Opened, Parted, Inside, Released, Dead}
 
 pub data Course : State → Type 0 where
   ends : Course Start
@@ -17,6 +17,8 @@ course Start = ends
 course Second = goes-on refl refl
 course Third = goes-on refl refl
 course Tagged = goes-on refl refl
+course Opened = goes-on refl refl
+course Parted = goes-on refl refl
 course Inside = goes-on refl refl
 course Released = goes-on refl refl
 course Dead = fails

@@ -80,17 +80,24 @@ pub fn kind_of(service: Service, byte: u8) -> Kind
     Kind::Other
 }
 
-// Is it data that neither ends a segment nor releases the next byte? Most bytes of a message are, separators among them.
+// Is it ASCII that ends neither an element nor a segment and releases nothing? Most bytes of a message are, component marks among them.
+// Bytes above 0x7E may be data too and are asked for their kind: one test less for all others.
 pub fn is_text(service: Service, byte: u8) -> bool
     ensures { λ r. ⌜ r ≡ isText service byte ⌝ }
 {
-    if byte == service.release {
+    if byte < 0x20 {
+        return false;
+    }
+    if 0x7e < byte {
         return false;
     }
     if byte == service.terminator {
         return false;
     }
-    is_data(byte)
+    if byte == service.element {
+        return false;
+    }
+    byte != service.release
 }
 
 // Does the byte stand for itself only behind a release? Few bytes of a message do.

@@ -1,18 +1,20 @@
 // One byte more: the state that reading keeps between bytes, and how a byte moves it. Where a message goes wrong is asked byte by byte.
 ghost use mathlib.Core.Path.{_≡_};
 ghost use Rattle.reading.specs.meaning.Service.{isTagByte};
-ghost use Rattle.reading.specs.method.Machine.{afterTag, afterTagged, afterInside, afterReleased, stepped, isDead, badFrom};
+ghost use Rattle.reading.specs.method.Machine.{afterTag, afterTagged, afterOpened, afterParted, afterInside, afterReleased, stepped, isDead, badFrom};
 use crate::bytes;
 use crate::bytes::Kind;
 use crate::service::Service;
 
-// Where reading stands: before the tag's first, second and third byte, after the tag, inside an element, after a
-// release, or past a fault, from where nothing leads back.
+// Where reading stands: before the tag's first, second and third byte, after the tag, right behind the mark that opens an element,
+// right behind one that parts two components, behind data, after a release, or past a fault, from where nothing leads back.
 pub enum State {
     Start,
     Second,
     Third,
     Tagged,
+    Opened,
+    Parted,
     Inside,
     Released,
     Dead,
@@ -32,10 +34,38 @@ fn after_tagged(kind: Kind) -> State
 {
     match kind {
         Kind::Component => State::Dead,
-        Kind::Element => State::Inside,
+        Kind::Element => State::Opened,
         Kind::Terminator => State::Start,
         Kind::Release => State::Dead,
         Kind::Plain => State::Dead,
+        Kind::Other => State::Dead,
+    }
+}
+
+// No segment ends right behind an element's mark.
+fn after_opened(kind: Kind) -> State
+    ensures { λ r. ⌜ r ≡ afterOpened kind ⌝ }
+{
+    match kind {
+        Kind::Component => State::Parted,
+        Kind::Element => State::Opened,
+        Kind::Terminator => State::Dead,
+        Kind::Release => State::Released,
+        Kind::Plain => State::Inside,
+        Kind::Other => State::Dead,
+    }
+}
+
+// Nor does an element right behind a component's.
+fn after_parted(kind: Kind) -> State
+    ensures { λ r. ⌜ r ≡ afterParted kind ⌝ }
+{
+    match kind {
+        Kind::Component => State::Parted,
+        Kind::Element => State::Dead,
+        Kind::Terminator => State::Dead,
+        Kind::Release => State::Released,
+        Kind::Plain => State::Inside,
         Kind::Other => State::Dead,
     }
 }
@@ -44,8 +74,8 @@ fn after_inside(kind: Kind) -> State
     ensures { λ r. ⌜ r ≡ afterInside kind ⌝ }
 {
     match kind {
-        Kind::Component => State::Inside,
-        Kind::Element => State::Inside,
+        Kind::Component => State::Parted,
+        Kind::Element => State::Opened,
         Kind::Terminator => State::Start,
         Kind::Release => State::Released,
         Kind::Plain => State::Inside,
@@ -75,6 +105,8 @@ pub fn step(service: Service, state: State, byte: u8) -> State
         State::Second => after_tag(byte, State::Third),
         State::Third => after_tag(byte, State::Tagged),
         State::Tagged => after_tagged(bytes::kind_of(service, byte)),
+        State::Opened => after_opened(bytes::kind_of(service, byte)),
+        State::Parted => after_parted(bytes::kind_of(service, byte)),
         State::Inside => after_inside(bytes::kind_of(service, byte)),
         State::Released => after_released(bytes::kind_of(service, byte)),
         State::Dead => State::Dead,
@@ -90,6 +122,8 @@ pub fn is_dead(state: State) -> bool
         State::Second => false,
         State::Third => false,
         State::Tagged => false,
+        State::Opened => false,
+        State::Parted => false,
         State::Inside => false,
         State::Released => false,
         State::Dead => true,

@@ -5,9 +5,9 @@ ghost use mathlib.Core.Bool.{_&&_};
 ghost use lib.Dec.{ltb};
 ghost use lib.ListN.{length, drop, getD};
 ghost use Rattle.reading.specs.meaning.Service.{mustRelease};
-ghost use Rattle.reading.specs.declared.machine.State.the-variants.{Inside};
+ghost use Rattle.reading.specs.declared.machine.State.the-variants.{Opened};
 ghost use Rattle.reading.specs.method.Machine.{endOn, segmentEnd, orLength};
-ghost use Rattle.reading.specs.method.Kept.{TagOrNone};
+ghost use Rattle.reading.specs.method.Kept.{TagOrNone, Passed, markedBy};
 use crate::bytes;
 use crate::bytes::Kind;
 use crate::service::Service;
@@ -22,38 +22,79 @@ fn is_released(service: Service, message: &[u8], at: usize) -> bool
     false
 }
 
-// From inside an element on.
-fn end_inside(service: Service, message: &[u8], from: usize) -> usize
-    ensures { λ r. ⌜ r ≡ orLength (now (message .entry)) (endOn service Inside from (drop from (now (message .entry)))) ⌝ }
+// The first byte from an offset on that is no text; the end if there is none. This is where a message's bytes are read one by one.
+fn pass_text(service: Service, message: &[u8], from: usize) -> usize
+    ensures { λ r. ⌜ Passed service (now (message .entry)) from r ⌝ }
 {
     let mut at = from;
     while at < message.len() {
-        let byte = message[at];
-        if bytes::is_text(service, byte) {
-            at += 1;
-        } else {
-            match bytes::kind_of(service, byte) {
-                Kind::Component => {
-                    at += 1;
-                }
-                Kind::Element => {
-                    at += 1;
-                }
-                Kind::Terminator => {
-                    return at;
-                }
-                Kind::Release => {
-                    if !is_released(service, message, at + 1) {
-                        return message.len();
-                    }
-                    at += 2;
-                }
-                Kind::Plain => {
-                    at += 1;
-                }
-                Kind::Other => {
+        if !bytes::is_text(service, message[at]) {
+            return at;
+        }
+        at += 1;
+    }
+    at
+}
+
+// Does a needless mark stand right before `at`? Where text has been passed from `from` on, it would be a component's; otherwise it is what
+// stood before `from`.
+fn is_marked(service: Service, message: &[u8], from: usize, at: usize, was: bool) -> bool
+    ensures { λ r. ⌜ r ≡ markedBy service (now (message .entry)) from at was ⌝ }
+{
+    if from < at {
+        return slices::byte_at(message, at - 1) == service.component as u32;
+    }
+    was
+}
+
+// From right behind the mark that opens an element on, text after text. `opened` and `parted` say what stands right before `next`: such a
+// mark, or one that parts two components.
+fn end_inside(service: Service, message: &[u8], from: usize) -> usize
+    ensures { λ r. ⌜ r ≡ orLength (now (message .entry)) (endOn service Opened from (drop from (now (message .entry)))) ⌝ }
+{
+    let mut opened = true;
+    let mut parted = false;
+    let mut next = from;
+    while next < message.len() {
+        let at = pass_text(service, message, next);
+        if message.len() <= at {
+            return message.len();
+        }
+        match bytes::kind_of(service, message[at]) {
+            Kind::Component => {
+                opened = false;
+                parted = true;
+                next = at + 1;
+            }
+            Kind::Element => {
+                if is_marked(service, message, next, at, parted) {
                     return message.len();
                 }
+                opened = true;
+                parted = false;
+                next = at + 1;
+            }
+            Kind::Terminator => {
+                if is_marked(service, message, next, at, opened | parted) {
+                    return message.len();
+                }
+                return at;
+            }
+            Kind::Release => {
+                if !is_released(service, message, at + 1) {
+                    return message.len();
+                }
+                opened = false;
+                parted = false;
+                next = at + 2;
+            }
+            Kind::Plain => {
+                opened = false;
+                parted = false;
+                next = at + 1;
+            }
+            Kind::Other => {
+                return message.len();
             }
         }
     }

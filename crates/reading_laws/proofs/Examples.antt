@@ -1,4 +1,5 @@
--- Worked examples, computed from the definitions: 01's starred messages of the reading, its faults with `?`, and a lookup.
+-- Worked examples, computed from the definitions: 01's starred messages of the reading, its faults with `?`, T-05's needless separators,
+-- and a lookup.
 use Prim.Native.Nat.{ℕ}
 use mathlib.Core.Path.{_≡_, refl}
 use mathlib.Core.List.{List, [], _∷_}
@@ -25,6 +26,16 @@ messages =
     ∷ (85 ∷ 78 ∷ 72 ∷ 43 ∷ 49 ∷ 39 ∷ 85 ∷ 78 ∷ 83 ∷ 39 ∷ [], Segments 2)
     -- UNH+1', and CR between segments
     ∷ (85 ∷ 78 ∷ 72 ∷ 43 ∷ 49 ∷ 39 ∷ 13 ∷ 85 ∷ 78 ∷ 83 ∷ 39 ∷ [], BadAt 6)
+    -- UNS+' : nothing behind the element's mark
+    ∷ (85 ∷ 78 ∷ 83 ∷ 43 ∷ 39 ∷ [], BadAt 4)
+    -- UNH+1:' : nothing behind the component's mark
+    ∷ (85 ∷ 78 ∷ 72 ∷ 43 ∷ 49 ∷ 58 ∷ 39 ∷ [], BadAt 6)
+    -- UNH+1:+2' : nor behind this one
+    ∷ (85 ∷ 78 ∷ 72 ∷ 43 ∷ 49 ∷ 58 ∷ 43 ∷ 50 ∷ 39 ∷ [], BadAt 6)
+    -- UNH+1:?:+2' : the last component is the released :
+    ∷ (85 ∷ 78 ∷ 72 ∷ 43 ∷ 49 ∷ 58 ∷ 63 ∷ 58 ∷ 43 ∷ 50 ∷ 39 ∷ [], Segments 1)
+    -- UNH++1+:2::3' : empty elements and components before data
+    ∷ (85 ∷ 78 ∷ 72 ∷ 43 ∷ 43 ∷ 49 ∷ 43 ∷ 58 ∷ 50 ∷ 58 ∷ 58 ∷ 51 ∷ 39 ∷ [], Segments 1)
     ∷ []
 
 -- AAA+B:?'C++D', the header's example: element, component, and where it lies
@@ -44,7 +55,7 @@ AllFound (x ∷ xs) = (componentSpan standard text 0 (x .0) (x .1) ≡ x .2) × 
 
 messages-scanned : AllScanned messages
 unfolding messages scanOn kindOf isTagByte isData
-messages-scanned = (refl, (refl, (refl, (refl, (refl, (refl, (refl, tt)))))))
+messages-scanned = (refl, (refl, (refl, (refl, (refl, (refl, (refl, (refl, (refl, (refl, (refl, (refl, tt))))))))))))
 
 components-found : AllFound lookups
 unfolding lookups text endOn seekOn isHere kindOf isTagByte isData

@@ -11,15 +11,16 @@ use mathlib.Core.Logic.{dite, _↔_}
 use lib.Dec.{ltb}
 use lib.ListN.{length, take}
 use borrow.Author.Tests.{lt-ltb}
-use Rattle.reading.specs.meaning.Service.{GoodService, isTagByte}
+use Rattle.reading.specs.meaning.Service.{GoodService, isData, isTagByte, isWordByte}
 use Rattle.reading.specs.meaning.WellFormed.{WellFormed, Begins, FirstBad}
 use Rattle.reading.specs.method.Outcome.{Outcome, Segments, BadAt}
 use Rattle.reading_laws.specs.laws.Outcome.{Means}
-use Rattle.reading.specs.method.Machine.{pick, afterTag, afterTagged, afterInside, afterReleased, stepped, isStart, isDead, ended, scanOn, scanned}
+use Rattle.reading.specs.method.Machine.{pick, kindOf, afterTag, afterTagged, afterOpened, afterParted, afterInside, afterReleased, stepped, isStart, isDead, ended, scanOn, scanned}
 use Rattle.reading.specs.declared.service.Service.{Service}
+use Rattle.reading.specs.declared.bytes.Kind.the-variants.{Plain}
 use Rattle.reading.specs.declared.machine.State.{State}
-use Rattle.reading.specs.declared.machine.State.the-variants.{Start, Second, Third, Tagged, Inside, Released, Dead}
-use Rattle.reading_laws.proofs.Services.{kind-release, kind-terminator}
+use Rattle.reading.specs.declared.machine.State.the-variants.{Start, Second, Third, Tagged, Opened, Parted, Inside, Released, Dead}
+use Rattle.reading_laws.proofs.Services.{kind-release, kind-terminator, kind-word}
 use Rattle.reading.proofs.States.{Course, ends, goes-on, fails, course}
 use Rattle.reading.proofs.Scanning.{bad-segments}
 use Rattle.reading_laws.proofs.Accepting.{on-step, accepts, accepted}
@@ -125,13 +126,15 @@ module _ (s : Service) where
           )
 
 module _ (s : Service) (good : GoodService s) where
-  -- ---- each live state has a completion: 65 is the tag byte 'A'
+  -- ---- each live state has a completion: 65 is 'A', a tag byte and a data byte
 
   completion : State → List ℕ
   completion Start = 65 ∷ 65 ∷ 65 ∷ s .terminator ∷ []
   completion Second = 65 ∷ 65 ∷ s .terminator ∷ []
   completion Third = 65 ∷ s .terminator ∷ []
   completion Tagged = s .terminator ∷ []
+  completion Opened = 65 ∷ s .terminator ∷ []
+  completion Parted = 65 ∷ s .terminator ∷ []
   completion Inside = s .terminator ∷ []
   completion Released = s .release ∷ s .terminator ∷ []
   completion Dead = []
@@ -139,6 +142,10 @@ module _ (s : Service) (good : GoodService s) where
   tag-A : isTagByte 65 ≡ true
   unfolding isTagByte
   tag-A = refl
+
+  data-A : kindOf s 65 ≡ Plain
+  unfolding isWordByte isData
+  data-A = kind-word s good 65 refl refl
 
   done : (n at : ℕ) → scanOn s Start (n + 1) at [] ≡ Segments (n + 1)
   unfolding scanOn
@@ -166,6 +173,8 @@ module _ (s : Service) (good : GoodService s) where
   completes Second n at e = from-second n at
   completes Third n at e = from-third n at
   completes Tagged n at e = from-tagged n at
+  completes Opened n at e = on-step s Opened Inside n at 65 _ (ap afterOpened data-A) ∙ from-inside n (at + 1)
+  completes Parted n at e = on-step s Parted Inside n at 65 _ (ap afterParted data-A) ∙ from-inside n (at + 1)
   completes Inside n at e = from-inside n at
   completes Released n at e = on-step s Released Inside n at (s .release) _ (ap afterReleased (kind-release s good)) ∙ from-inside n (at + 1)
   completes Dead n at e = absurd (true≢false e)

@@ -144,3 +144,18 @@ module _ (s : Service) (good : GoodService s) where
         ne-eqb (s .terminator) (s .element) (λ e. element-terminator (sym e)),
         eq-eqb (s .terminator) (s .terminator) refl,
       )
+
+  -- and so is a word byte that is data
+  pub kind-word : (b : ℕ) → isWordByte b ≡ true → isData b ≡ true → kindOf s b ≡ Plain
+  kind-word b w d = go (kindOf s b) (see s b)
+    where
+      marked : {k : Kind} → mustRelease s b ≡ true → k ≡ Plain
+      marked t = absurd (true≢false (sym t ∙ good .words b w))
+
+      go : (k : Kind) → Seen s b k → k ≡ Plain
+      go Component (component e t) = marked t
+      go Element (element e t) = marked t
+      go Terminator (terminator e t) = marked t
+      go Release (release e t) = marked t
+      go Plain (plain h t) = refl
+      go Other (other h t) = absurd (true≢false (sym d ∙ h))

@@ -26,8 +26,36 @@ impl Service {
     }
 }
 
+/// What a byte is that is not released.
+#[derive(Clone, Copy, Debug, PartialEq, Eq)]
+pub enum Kind {
+    /// Data that needs no release.
+    Plain,
+    Component,
+    Element,
+    Terminator,
+    Release,
+    Other,
+}
+
+pub const fn kind_of(service: Service, byte: u8) -> Kind {
+    if byte == service.component {
+        Kind::Component
+    } else if byte == service.element {
+        Kind::Element
+    } else if byte == service.terminator {
+        Kind::Terminator
+    } else if byte == service.release {
+        Kind::Release
+    } else if is_data(byte) {
+        Kind::Plain
+    } else {
+        Kind::Other
+    }
+}
+
 /// "Data bytes are 0x20–0x7E and 0xA0–0xFF."
-pub fn is_data(byte: u8) -> bool {
+pub const fn is_data(byte: u8) -> bool {
     matches!(byte, 0x20..=0x7E | 0xA0..=0xFF)
 }
 

@@ -4,17 +4,20 @@
 
 use crate::enumeration::for_each_text;
 
-/// The first leads to acceptance most often. Some are no UNH, one has its `'`
-/// released, one is no segment, and one is not there.
-const OPENINGS: [&str; 16] = [
+/// The first leads to acceptance most often. Some are no UNH, some have needless
+/// separators, one has its `'` released, one is no segment, and one is not there.
+const OPENINGS: [&str; 19] = [
     "UNH+1'",
     "UNH+1:2+3'",
     "UNH+01'",
     "UNH+12'",
     "UNH+??'",
     "UNH+?''",
+    "UNH+?:'",
     "UNH+?'",
     "UNH+'",
+    "UNH+1:'",
+    "UNH+1:+3'",
     "UNH'",
     "UNH+:1'",
     "UNH++1'",
@@ -25,18 +28,28 @@ const OPENINGS: [&str; 16] = [
     "",
 ];
 
-/// What a message's middle is made of; `?'` and `???'` end no segment.
-const PIECES: [&str; 8] = [
-    "BGM+7'", "UNS'", "UNH+1'", "UNT+3+1'", "FTX+?'", "FTX+??'", "FTX+???'", "FTX+\n'",
+/// What a message's middle is made of; `?'` and `???'` end no segment, and the
+/// last one has a needless separator.
+const PIECES: [&str; 10] = [
+    "BGM+7'",
+    "UNS'",
+    "UNH+1'",
+    "UNT+3+1'",
+    "FTX+?'",
+    "FTX+??'",
+    "FTX+???'",
+    "FTX+\n'",
+    "FTX++:?:'",
+    "FTX+7:'",
 ];
 
-const REFERENCES: [&str; 11] = [
-    "1", "2", "", "01", "12", "1 ", "??", "?'", "?+1", "1?'", "?1",
+const REFERENCES: [&str; 12] = [
+    "1", "2", "", "01", "12", "1 ", "??", "?:", "?'", "?+1", "1?'", "?1",
 ];
 
 /// The closing segment, in which C stands for the count and R for the
-/// reference, at their places and at others.
-const CLOSINGS: [&str; 10] = [
+/// reference, at their places and at others, also with needless separators.
+const CLOSINGS: [&str; 13] = [
     "UNT+C+R'",
     "UNT+C:9+R:9+9'",
     "UNT+C'",
@@ -45,6 +58,9 @@ const CLOSINGS: [&str; 10] = [
     "UNT+C:R'",
     "UNT+C++R'",
     "UNT+C+:R'",
+    "UNT+C+R+'",
+    "UNT+C+R:'",
+    "UNT+C:+R'",
     "UNS+C+R'",
     "UNT+C+R",
 ];
@@ -82,6 +98,9 @@ fn visit_closed(text: &mut Vec<u8>, visit: &mut impl FnMut(&[u8])) {
         format!("UNT+{n}+2'"),
         format!("UNT+{}+2'", n + 1),
         format!("UNT+{n}'"),
+        format!("UNT+{n}+'"),
+        format!("UNT+{n}:+1'"),
+        format!("UNT+{n}+1:'"),
         format!("UNT+{n}+??'"),
         format!("UNT+{n}+?''"),
         "UNT'".to_string(),

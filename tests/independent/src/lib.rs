@@ -12,8 +12,9 @@
 //!   random messages that fit a book, and ways to break them
 //! - [`machine`]: the state machine over bytes, for number 4's place
 //! - [`archives`]: safe calls into the proved archives
-//! - [`enumeration`], [`envelope`], [`random`], [`writing`]: where the compared
-//!   texts come from
+//! - [`enumeration`], [`envelope`], [`random`], [`writing`], [`breaking`]: where
+//!   the compared texts come from
+//! - [`needless`]: separators that T-05 forbids, told apart and counted
 //! - [`planned`]: books that benchmarks and comparisons are run over
 //! - [`arguments`], [`lent`], [`times`], [`difference`], [`described`]: what the
 //!   programs are called with, lend, measure, leave behind and print
@@ -39,6 +40,7 @@
 pub mod archives;
 pub mod arguments;
 pub mod book;
+pub mod breaking;
 pub mod bytes;
 pub mod described;
 pub mod difference;
@@ -47,6 +49,7 @@ pub mod envelope;
 pub mod judging;
 pub mod lent;
 pub mod machine;
+pub mod needless;
 pub mod placing;
 pub mod planned;
 pub mod random;

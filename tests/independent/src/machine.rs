@@ -1,7 +1,7 @@
 //! The state machine over bytes as one would write it in ordinary Rust: where a
 //! message goes wrong, and in which state.
 
-use crate::bytes::{is_data, is_tag_byte, Service};
+use crate::bytes::{is_tag_byte, kind_of, Kind, Service};
 
 /// What the bytes so far leave open.
 #[derive(Clone, Copy, Debug, PartialEq, Eq)]
@@ -12,7 +12,11 @@ pub enum State {
     Third,
     /// After the tag: an element or the end must follow.
     Tagged,
-    /// Within the elements.
+    /// After an element mark: the end must not follow.
+    Opened,
+    /// After a component mark: neither an element nor the end must follow.
+    Parted,
+    /// Within a component that has bytes.
     Inside,
     /// After a release character.
     Released,
@@ -20,42 +24,17 @@ pub enum State {
     Dead,
 }
 
-#[derive(Clone, Copy, PartialEq, Eq)]
-enum Kind {
-    Component,
-    Element,
-    Terminator,
-    Release,
-    Plain,
-    Other,
-}
-
-fn kind_of(service: Service, byte: u8) -> Kind {
-    if byte == service.component {
-        Kind::Component
-    } else if byte == service.element {
-        Kind::Element
-    } else if byte == service.terminator {
-        Kind::Terminator
-    } else if byte == service.release {
-        Kind::Release
-    } else if is_data(byte) {
-        Kind::Plain
-    } else {
-        Kind::Other
-    }
-}
-
-fn step(service: Service, state: State, byte: u8) -> State {
+/// The state after one byte more.
+pub fn step(service: Service, state: State, byte: u8) -> State {
     match (state, kind_of(service, byte)) {
         (State::Start, Kind::Plain) if is_tag_byte(byte) => State::Second,
         (State::Second, Kind::Plain) if is_tag_byte(byte) => State::Third,
         (State::Third, Kind::Plain) if is_tag_byte(byte) => State::Tagged,
-        (State::Tagged, Kind::Element) => State::Inside,
-        (State::Tagged, Kind::Terminator) => State::Start,
-        (State::Inside, Kind::Plain | Kind::Component | Kind::Element) => State::Inside,
-        (State::Inside, Kind::Terminator) => State::Start,
-        (State::Inside, Kind::Release) => State::Released,
+        (State::Tagged | State::Opened | State::Inside, Kind::Element) => State::Opened,
+        (State::Tagged | State::Inside, Kind::Terminator) => State::Start,
+        (State::Opened | State::Parted | State::Inside, Kind::Component) => State::Parted,
+        (State::Opened | State::Parted | State::Inside, Kind::Plain) => State::Inside,
+        (State::Opened | State::Parted | State::Inside, Kind::Release) => State::Released,
         (State::Released, Kind::Component | Kind::Element | Kind::Terminator | Kind::Release) => {
             State::Inside
         }
@@ -107,7 +86,7 @@ mod tests {
 
     #[test]
     fn agrees_with_the_reading_on_short_texts() {
-        for prefix in ["", "AAA", "AAA+A'A1"] {
+        for prefix in ["", "AAA", "AAA+", "AAA+A:", "AAA+A'A1", "AAA+A'AAA+?:"] {
             for_each_text(&ALPHABET, prefix.as_bytes(), 4, &mut |text| {
                 assert_agrees_with_the_reading(text)
             });
@@ -116,7 +95,9 @@ mod tests {
 
     #[test]
     fn agrees_with_the_reading_on_every_byte_in_every_state() {
-        for prefix in ["", "A", "AA", "AAA", "AAA+", "AAA+?"] {
+        for prefix in [
+            "", "A", "AA", "AAA", "AAA+", "AAA++", "AAA+:", "AAA+A:", "AAA+A", "AAA+?", "AAA+?:",
+        ] {
             for byte in 0..=u8::MAX {
                 let mut text = prefix.as_bytes().to_vec();
                 text.push(byte);

@@ -1,12 +1,15 @@
 //! The independent reading of a message, straight from 01, "Bytes of a
 //! message": a message is segments, a segment is a tag and elements, an element
-//! is components, and there is one function for each of these words.
+//! is components, and there is one function for each of these words. T-05
+//! amends it: "`+` or `'` directly after an unreleased `:`, and `'` directly
+//! after an unreleased `+`, is number 4 at the later byte."
 //!
 //! Why the offset of a failure is number 4's place: every function stops at the
 //! first byte that 01 allows nowhere at that point, or at the end of the text.
-//! All before that byte can still be completed (a tag by letters, a release by
-//! a separator, anything else by `'`), so the bytes before it begin a
-//! well-formed message and the bytes up to it begin none.
+//! All before that byte can still be completed (a tag by letters and `'`, a
+//! release by a separator and `'`, `+` and `:` by a data byte and `'`, anything
+//! else by `'`), so the bytes before it begin a well-formed message and the
+//! bytes up to it begin none.
 
 use crate::bytes::{is_data, is_tag_byte, Service};
 
@@ -44,6 +47,10 @@ impl Component {
     /// Whether its text has a releasing `?`.
     pub fn is_released(&self) -> bool {
         self.value.len() < self.end - self.start
+    }
+
+    pub fn is_empty(&self) -> bool {
+        self.start == self.end
     }
 }
 
@@ -135,10 +142,14 @@ pub fn read_segment(text: &[u8], start: usize) -> Result<Segment, usize> {
     let mut elements = Vec::new();
     while text.get(at) == Some(&SERVICE.element) {
         let element = read_element(text, at + 1)?;
-        at = end_of(&element);
+        at = last_of(&element).end;
         elements.push(element);
     }
     if text.get(at) != Some(&SERVICE.terminator) {
+        return Err(at);
+    }
+    // "`'` directly after an unreleased `+`": nothing lies between them.
+    if elements.last().is_some_and(|last| last_of(last).is_empty()) {
         return Err(at);
     }
     Ok(Segment {
@@ -159,16 +170,22 @@ fn read_tag(text: &[u8], start: usize) -> Result<[u8; 3], usize> {
     rest[..length].try_into().map_err(|_| start + length)
 }
 
+/// Reads up to the `+` or `'` that ends the element, which must be there.
 fn read_element(text: &[u8], start: usize) -> Result<Element, usize> {
     let mut element = vec![read_component(text, start)?];
-    while text.get(end_of(&element)) == Some(&SERVICE.component) {
-        element.push(read_component(text, end_of(&element) + 1)?);
+    while text.get(last_of(&element).end) == Some(&SERVICE.component) {
+        element.push(read_component(text, last_of(&element).end + 1)?);
+    }
+    // "`+` or `'` directly after an unreleased `:`": nothing lies between them.
+    let last = last_of(&element);
+    if element.len() > 1 && last.is_empty() {
+        return Err(last.end);
     }
     Ok(element)
 }
 
-fn end_of(element: &Element) -> usize {
-    element[element.len() - 1].end
+fn last_of(element: &Element) -> &Component {
+    &element[element.len() - 1]
 }
 
 /// Reads up to the separator that ends the component, which must be there.

@@ -31,14 +31,31 @@ pub record Segment : Type 0 where
 abbrev pub Message : Type 0
 Message = List Segment
 
--- ---- which are valid: tags of tag bytes, values of data bytes. 01: "Trailing empty elements and components are allowed."
+-- ---- which are valid: tags of tag bytes, values of data bytes, and no trailing separators. 01 as T-05 amends it (docs/amendments.md): "An
+-- element is one empty component, or its last component has bytes; a segment's last element has bytes."
 
 abbrev pub ValidComponent : Component → Type 0
 ValidComponent c = All IsData c
 
+abbrev pub HasBytes : Component → Type 0
+HasBytes [] = ⊥
+HasBytes (b ∷ bs) = Unit {0}
+
+-- P of the last one, if there is any
+abbrev pub Last : {A : Type 0} → (A → Type 0) → List A → Type 0
+Last P [] = Unit {0}
+Last P (x ∷ []) = P x
+Last P (x ∷ y ∷ ys) = Last P (y ∷ ys)
+
+-- one component may be empty; of several, the last has bytes
 pub record ValidElement (e : Element) : Type 0 where
   pub first : ValidComponent (e .first)
   pub more : All ValidComponent (e .more)
+  pub ended : Last HasBytes (e .more)
+
+-- a valid element that has bytes ends in them
+abbrev pub EndsInBytes : Element → Type 0
+EndsInBytes e = Last HasBytes (e .first ∷ e .more)
 
 pub record ValidTag (t : Tag) : Type 0 where
   pub first : isTagByte (t .first) ≡ true
@@ -48,6 +65,7 @@ pub record ValidTag (t : Tag) : Type 0 where
 pub record ValidSegment (g : Segment) : Type 0 where
   pub tag : ValidTag (g .tag)
   pub elements : All ValidElement (g .elements)
+  pub ended : Last EndsInBytes (g .elements)
 
 -- 01: "A message is one or more segments."
 pub record ValidMessage (m : Message) : Type 0 where

@@ -3,7 +3,7 @@
 use Prim.Native.Nat.{ℕ, _+_}
 use mathlib.Core.List.{List, [], _∷_}
 use mathlib.Core.Bool.{Bool, true, false, not, _&&_}
-use lib.Dec.{eqb, ltb}
+use lib.Dec.{eqb, leb, ltb}
 use lib.ListN.{length, drop}
 use Rattle.reading.specs.meaning.Service.{isData, isTagByte}
 use Rattle.reading.specs.meaning.Component.{span}
@@ -12,7 +12,7 @@ use Rattle.reading.specs.declared.span.Span.{Span}
 use Rattle.reading.specs.declared.bytes.Kind.{Kind}
 use Rattle.reading.specs.declared.bytes.Kind.the-variants.{Component, Element, Terminator, Release, Plain, Other}
 use Rattle.reading.specs.declared.machine.State.{State}
-use Rattle.reading.specs.declared.machine.State.the-variants.{Start, Second, Third, Tagged, Inside, Released, Dead}
+use Rattle.reading.specs.declared.machine.State.the-variants.{Start, Second, Third, Tagged, Opened, Parted, Inside, Released, Dead}
 use Rattle.reading.specs.method.Outcome.{Outcome, Segments, BadAt}
 use Rattle.reading.specs.declared.cursor.End.{End}
 use Rattle.reading.specs.declared.cursor.End.the-variants.{At, Nowhere}
@@ -33,9 +33,9 @@ kindOf s b =
     (pick (eqb b (s .terminator)) Terminator
     (pick (isData b) Plain Other))))
 
--- data that neither ends a segment nor releases the next byte
+-- data of ASCII that ends neither an element nor a segment and releases nothing
 unfoldable pub isText : Service → ℕ → Bool
-isText s b = not (eqb b (s .release)) && (not (eqb b (s .terminator)) && isData b)
+isText s b = leb 0x20 b && (leb b 0x7e && (not (eqb b (s .terminator)) && (not (eqb b (s .element)) && not (eqb b (s .release)))))
 
 -- ---- a step
 
@@ -46,15 +46,33 @@ afterTag false next = Dead
 -- 01: "then elements each opened by `+`, then `'`"
 abbrev pub afterTagged : Kind → State
 afterTagged Component = Dead
-afterTagged Element = Inside
+afterTagged Element = Opened
 afterTagged Terminator = Start
 afterTagged Release = Dead
 afterTagged Plain = Dead
 afterTagged Other = Dead
 
+-- 02, T-05: "`'` directly after an unreleased `+`"
+abbrev pub afterOpened : Kind → State
+afterOpened Component = Parted
+afterOpened Element = Opened
+afterOpened Terminator = Dead
+afterOpened Release = Released
+afterOpened Plain = Inside
+afterOpened Other = Dead
+
+-- 02, T-05: "`+` or `'` directly after an unreleased `:`"
+abbrev pub afterParted : Kind → State
+afterParted Component = Parted
+afterParted Element = Dead
+afterParted Terminator = Dead
+afterParted Release = Released
+afterParted Plain = Inside
+afterParted Other = Dead
+
 abbrev pub afterInside : Kind → State
-afterInside Component = Inside
-afterInside Element = Inside
+afterInside Component = Parted
+afterInside Element = Opened
 afterInside Terminator = Start
 afterInside Release = Released
 afterInside Plain = Inside
@@ -73,6 +91,8 @@ stepped s Start b = afterTag (isTagByte b) Second
 stepped s Second b = afterTag (isTagByte b) Third
 stepped s Third b = afterTag (isTagByte b) Tagged
 stepped s Tagged b = afterTagged (kindOf s b)
+stepped s Opened b = afterOpened (kindOf s b)
+stepped s Parted b = afterParted (kindOf s b)
 stepped s Inside b = afterInside (kindOf s b)
 stepped s Released b = afterReleased (kindOf s b)
 stepped s Dead b = Dead
@@ -82,6 +102,8 @@ isStart Start = true
 isStart Second = false
 isStart Third = false
 isStart Tagged = false
+isStart Opened = false
+isStart Parted = false
 isStart Inside = false
 isStart Released = false
 isStart Dead = false
@@ -91,6 +113,8 @@ isDead Start = false
 isDead Second = false
 isDead Third = false
 isDead Tagged = false
+isDead Opened = false
+isDead Parted = false
 isDead Inside = false
 isDead Released = false
 isDead Dead = true

@@ -5,9 +5,8 @@ use super::fitting::{written_data, Draft};
 use crate::book::edit::segment;
 use crate::book::{Book, Field};
 use crate::bytes::is_tag_byte;
-use crate::placing::render::put;
 use crate::random::Random;
-use crate::writing::byte_such_that;
+use crate::writing::{byte_such_that, put};
 
 /// A change of which segments there are, and in which order.
 type Reordering = fn(&mut Random, &mut Vec<Draft>);
@@ -37,7 +36,7 @@ const FIELDS: [Rewriting; 9] = [
     put_any_code,
     put_an_unnamed_component,
     put_a_far_component,
-    put_empty_components,
+    put_an_empty_one_before,
 ];
 
 /// What the closing segment says, and the Prüfidentifikator.
@@ -65,23 +64,6 @@ fn reorder(random: &mut Random, drafts: &mut Vec<Draft>) {
     random.pick(&ORDER)(random, drafts);
     if drafts.len() != count && random.chance(90) {
         set_count(drafts);
-    }
-}
-
-/// Changes one byte, or cuts.
-pub fn damage_bytes(random: &mut Random, text: &mut Vec<u8>) {
-    if text.is_empty() {
-        text.push(random.byte());
-        return;
-    }
-    let at = random.below(text.len());
-    match random.below(6) {
-        0 => text[at] = random.byte(),
-        1 => text[at] = random.pick(b":+'?A\n\x7F\x80\x9F\xA0"),
-        2 => text.insert(at, random.pick(b":+'?A\r\n")),
-        3 => drop(text.remove(at)),
-        4 => text.insert(at, b'?'),
-        _ => text.truncate(at),
     }
 }
 
@@ -305,18 +287,22 @@ fn put_a_far_component(random: &mut Random, _: &Book, drafts: &mut [Draft]) {
     };
     let near = random.between(1, 3);
     let place = random.pick(&[(far, near), (far, near), (near, far)]);
-    let text = if random.chance(80) { "X" } else { "" };
-    put(&mut drafts[at].elements, place, text.as_bytes().to_vec());
+    put(&mut drafts[at].elements, place, b"X".to_vec());
 }
 
-fn put_empty_components(random: &mut Random, _: &Book, drafts: &mut [Draft]) {
+/// An empty element or component before others, so that these move on by one.
+fn put_an_empty_one_before(random: &mut Random, _: &Book, drafts: &mut [Draft]) {
     let at = random.below(drafts.len());
     let elements = &mut drafts[at].elements;
-    if random.chance(50) || elements.is_empty() {
-        elements.push(vec![Vec::new(); random.between(1, 3)]);
+    if elements.is_empty() {
+        return put(elements, (2, 2), b"X".to_vec());
+    }
+    let element = random.below(elements.len());
+    if random.chance(50) {
+        elements.insert(element, vec![Vec::new()]);
     } else {
-        let element = random.below(elements.len());
-        elements[element].push(Vec::new());
+        let components = &mut elements[element];
+        components.insert(random.below(components.len()), Vec::new());
     }
 }
 

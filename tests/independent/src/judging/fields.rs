@@ -144,9 +144,10 @@ impl<'a> Iterator for Components<'a> {
     }
 }
 
-/// An element without bytes is nothing but component separators.
+/// An element without bytes is one empty component (T-05), so that its end
+/// follows at once.
 fn begins_element_with_bytes(element: &[u8]) -> bool {
-    let first = element.iter().find(|byte| **byte != SERVICE.component);
+    let first = element.first();
     first.is_some_and(|byte| *byte != SERVICE.element && *byte != SERVICE.terminator)
 }
 

@@ -6,9 +6,8 @@ use crate::book::edit::{plain_field, segment, segment_mut};
 use crate::book::generate::{good_book, needed_places, range_or_none, Size};
 use crate::book::{Book, Expression, Field, Form, Joint, Presence, Row, Selector, Tag};
 use crate::bytes::{is_data, Service};
-use crate::placing::render::{put, write_segment, Elements};
 use crate::random::Random;
-use crate::writing::byte_such_that;
+use crate::writing::{byte_such_that, put, write_segment, Elements};
 use std::collections::{BTreeMap, BTreeSet};
 use std::ops::Range;
 
@@ -261,9 +260,6 @@ fn fitting_segment(random: &mut Random, book: &Book, home: usize, mut values: Va
     let mut elements = Elements::new();
     for (place, text) in values {
         put(&mut elements, place, text);
-    }
-    if random.chance(5) {
-        elements.push(vec![Vec::new(); random.between(1, 2)]);
     }
     Draft {
         home,

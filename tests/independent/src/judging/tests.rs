@@ -1,7 +1,7 @@
 //! The judge against 01's own messages, at its limits, and against the plain
 //! judge by all fillings; the message alone against both.
 
-use super::damage::{damage, damage_bytes};
+use super::damage::damage;
 use super::fitting::{fitting_message, livable_book, write_message, Purpose};
 use super::message::judge_message;
 use super::plain::judge_by_fillings;
@@ -9,10 +9,12 @@ use super::*;
 use crate::book::edit::{insert_line, optional_line, smallest_book};
 use crate::book::encode::encode;
 use crate::book::{Condition, Expression, Field, Form, Joint, Presence, Row};
+use crate::breaking::{damage_bytes, put_needless_separator};
 use crate::enumeration::{for_each_text, ALPHABET};
 use crate::envelope::{for_each_byte, for_each_closing, for_each_envelope};
+use crate::needless::{needless_at, Causes};
 use crate::random::Random;
-use crate::reading::read_segments;
+use crate::reading::{read_message, read_segments};
 
 const BOOK_K: &[u8] = include_bytes!("../../../../books/k.bin");
 const SECOND_BOOK: &[u8] = include_bytes!("../../../../books/second.bin");
@@ -185,6 +187,30 @@ fn number_4_has_the_place_of_the_first_byte_too_many() {
     assert_eq!(judged(b"UNH+1??'", BOOK_K, &[0]), Record::at(7, 1));
 }
 
+/// T-05: in each segment, and before every number after 4.
+#[test]
+fn number_4_has_the_place_after_a_needless_separator() {
+    for (message, place) in [
+        ("UNH+'BGM+7'RFF+Z13:10001'UNT+4'", 4),
+        ("UNH+1:'BGM+7'RFF+Z13:10001'UNT+4+1'", 6),
+        ("UNH+1'BGM+7+'RFF+Z13:10001'UNT+4+1'", 12),
+        ("UNH+1'BGM+7'RFF+Z13:10001:'UNT+4+1'", 26),
+        ("UNH+1'BGM+7'RFF+Z13:+10001'UNT+4+1'", 20),
+        ("UNH+1'BGM+7'RFF+Z13:10001'UNT+4+1+'", 34),
+        ("UNH+1'BGM+7'RFF+Z13:10001'UNT+4+1:'", 34),
+        ("UNH+1'BGM+7'RFF+Z13:10001'UNT+4:+1'", 32),
+        ("UNH+1'BGM+7'RFF+Z13:10001'UNT+4+'", 32),
+        ("UNH+1'XYZ+'", 10),
+    ] {
+        for condition in [FALSE, TRUE, UNKNOWN] {
+            let record = judged_by_k(message, condition);
+            assert_eq!(record, Record::at(4, place), "{message}");
+        }
+    }
+    let released = "UNH+?:'BGM+7'RFF+:10001'UNT+4+?:'";
+    assert_eq!(judged_by_k(released, TRUE), Record::at(0, 4));
+}
+
 fn book_with_many(maximum: u32) -> Vec<u8> {
     let mut book = check(BOOK_K).expect("a good book");
     book.lines[3].maximum = maximum;
@@ -240,7 +266,7 @@ fn the_envelope_is_first_and_last_and_nowhere_else() {
         record.place
     };
     assert_eq!(place("UNH+1'"), 1);
-    assert_eq!(place("UNT+1+'"), 1);
+    assert_eq!(place("UNT+1'"), 1);
     assert_eq!(place("BGM+1'UNT+2'"), 1);
     assert_eq!(place("UNH+1'BGM+7'"), 2);
     assert_eq!(place("UNH+1'UNH+1'UNT+3+1'"), 2);
@@ -311,6 +337,10 @@ fn the_message_alone_has_numbers_3_to_9() {
         ("UNH+1", Record::at(4, 5)),
         ("UNH+1?A'", Record::at(4, 6)),
         ("UNH+1'UNT+2+1'\n", Record::at(4, 14)),
+        ("UNH+1'UNT+2+1:'", Record::at(4, 14)),
+        ("UNH+1'UNT+2:+1'", Record::at(4, 12)),
+        ("UNH+1'UNS+'UNT+3+1'", Record::at(4, 10)),
+        ("UNH+1'UNT+2+", Record::at(4, 12)),
         ("UNH+1'BGM'BGM'BGM'UNT+5+1'", Record::at(6, 5)),
         ("UNH+1'", Record::at(7, 1)),
         ("UNH+1'UNT+2+1'UNT+3+1'", Record::at(7, 2)),
@@ -424,11 +454,9 @@ fn presence_speaks_of_its_component_and_element() {
     );
     for (elements, place) in [
         ("++++A", (0, 0)),
-        ("+::+::+::+A", (0, 0)),
-        ("++++A+:::++", (0, 0)),
         ("", (4, 1)),
-        ("+", (4, 1)),
-        ("++++", (4, 1)),
+        ("++:A", (4, 1)),
+        ("++++:A", (4, 1)),
         ("+A+++A", (1, 1)),
         ("+:A+++A", (0, 0)),
         ("+::A+++A", (1, 2)),
@@ -441,7 +469,6 @@ fn presence_speaks_of_its_component_and_element() {
         ("+++A::A+A", (0, 0)),
         ("+++A::A::A+A", (3, 5)),
         ("++++A++A", (6, 1)),
-        ("++:A", (4, 1)),
         ("+++A", (3, 3)),
         ("+?:", (1, 1)),
         ("+:?:+++A", (0, 0)),
@@ -464,7 +491,8 @@ fn form_length_and_codes_are_of_the_value() {
         ..field(1, 1, Presence::MayHaveBytes)
     };
     let book = book_with_fields(vec![numeric.clone()], &[]);
-    for good in ["", "0", "-1", "123", "-123", "12.3", "-1.23", "0.00"] {
+    assert_eq!(place_at_fault(&book, ""), (0, 0));
+    for good in ["0", "-1", "123", "-123", "12.3", "-1.23", "0.00"] {
         assert_eq!(place_at_fault(&book, &format!("+{good}")), (0, 0), "{good}");
     }
     for bad in [
@@ -497,8 +525,7 @@ fn form_length_and_codes_are_of_the_value() {
 fn a_line_without_fields_allows_no_bytes() {
     let book = book_with_fields(Vec::new(), &[]);
     assert_eq!(place_at_fault(&book, ""), (0, 0));
-    assert_eq!(place_at_fault(&book, "+:++"), (0, 0));
-    assert_eq!(place_at_fault(&book, "+:++:A"), (3, 2));
+    assert_eq!(place_at_fault(&book, "+++:A"), (3, 2));
 }
 
 // Rows.
@@ -598,6 +625,7 @@ fn any_conditions(random: &mut Random, filling: &[u8]) -> Vec<u8> {
 fn agrees_with_the_plain_judge_by_all_fillings() {
     let mut random = Random::from_seed(15);
     let mut met = [0; 16];
+    let mut needless = Causes::default();
     for _ in 0..1_200 {
         let most_lines = random.pick(&[4, 8, 12, 20]);
         let book = livable_book(&mut random, most_lines);
@@ -618,8 +646,12 @@ fn agrees_with_the_plain_judge_by_all_fillings() {
                 damage(&mut random, &book, &mut drafts);
             }
             let mut message = write_message(&drafts);
+            assert!(read_message(&message).is_ok(), "only bytes are broken");
             if random.chance(5) {
                 damage_bytes(&mut random, &mut message);
+            }
+            if random.chance(5) {
+                put_needless_separator(&mut random, &mut message);
             }
             let conditions = any_conditions(&mut random, &filling);
             let record = judged(&message, &bytes, &conditions);
@@ -627,6 +659,10 @@ fn agrees_with_the_plain_judge_by_all_fillings() {
                 continue;
             };
             met[record.number as usize] += 1;
+            if record.number == 4 {
+                let cause = needless_at(&message, record.place as usize);
+                cause.into_iter().for_each(|cause| needless.add(cause));
+            }
             assert_eq!(
                 record,
                 plain,
@@ -638,4 +674,5 @@ fn agrees_with_the_plain_judge_by_all_fillings() {
     for number in [0, 4, 7, 8, 9, 10, 11, 12, 13, 14, 15] {
         assert!(met[number] >= 50, "number {number}: {met:?}");
     }
+    assert_eq!(needless.first_below(10), None);
 }

@@ -4,13 +4,9 @@ use crate::book::edit::{new_tag, segment};
 use crate::book::{Book, SegmentLine, Selector, Tag};
 use crate::bytes::Service;
 use crate::random::Random;
-use crate::writing::write_component;
+use crate::writing::{any_elements, put, write_segment, Elements};
 
 const SERVICE: Service = Service::STANDARD;
-
-/// The elements of a segment to be written: components as they are written,
-/// release bytes included.
-pub type Elements = Vec<Vec<Vec<u8>>>;
 
 /// The shortest segment with this home and, if it has a selector, its first code.
 pub fn plain_segment(book: &Book, home: usize) -> Vec<u8> {
@@ -140,40 +136,4 @@ fn place_of(selector: &Selector) -> (usize, usize) {
 fn any_code(random: &mut Random, book: &Book, selector: &Selector) -> Vec<u8> {
     let codes = &book.codes[selector.codes.clone()];
     codes[random.below(codes.len())].clone()
-}
-
-/// Up to four elements of up to three components.
-fn any_elements(random: &mut Random) -> Elements {
-    let mut elements = Elements::new();
-    for _ in 0..random.below(5) {
-        let mut element = Vec::new();
-        for _ in 0..random.between(1, 3) {
-            let mut text = Vec::new();
-            write_component(random, &mut text);
-            element.push(text);
-        }
-        elements.push(element);
-    }
-    elements
-}
-
-/// Puts a component in its place, with empty ones before it where none are.
-pub fn put(elements: &mut Elements, (element, component): (usize, usize), text: Vec<u8>) {
-    if elements.len() < element {
-        elements.resize(element, vec![Vec::new()]);
-    }
-    let element = &mut elements[element - 1];
-    if element.len() < component {
-        element.resize(component, Vec::new());
-    }
-    element[component - 1] = text;
-}
-
-pub fn write_segment(tag: Tag, elements: &Elements, text: &mut Vec<u8>) {
-    text.extend(tag);
-    for element in elements {
-        text.push(SERVICE.element);
-        text.extend(element.join(&SERVICE.component));
-    }
-    text.push(SERVICE.terminator);
 }

@@ -52,16 +52,22 @@ fn segment_length(bytes: &[u8]) -> Option<usize> {
         return None;
     }
     let mut at = TAG_BYTES;
+    // The byte before, so that a separator is seen to be needless (T-05); after
+    // a released byte, which is data, its release.
+    let mut before = bytes[TAG_BYTES - 1];
     loop {
         let byte = *bytes.get(at)?;
         if byte == SERVICE.terminator {
-            return Some(at + 1);
+            let is_needless = [SERVICE.element, SERVICE.component].contains(&before);
+            return (!is_needless).then_some(at + 1);
         } else if byte == SERVICE.release {
             if !SERVICE.must_be_released(*bytes.get(at + 1)?) {
                 return None;
             }
+            before = byte;
             at += 2;
-        } else if is_data(byte) {
+        } else if is_data(byte) && [before, byte] != [SERVICE.component, SERVICE.element] {
+            before = byte;
             at += 1;
         } else {
             return None;

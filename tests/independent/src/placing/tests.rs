@@ -79,6 +79,20 @@ fn a_segment_without_a_home_comes_before_homes_that_are_not_allowed() {
 }
 
 #[test]
+fn segments_end_before_a_needless_separator() {
+    let place = |message: &str| number_and_place(&book_k(), message);
+    for needless in ["BGM+'", "BGM+7:'", "BGM+7:+8'", "BGM+?:+'", "XYZ+'"] {
+        assert_eq!(
+            place(&format!("UNH+1'{needless}XYZ'")),
+            (0, 1),
+            "{needless}"
+        );
+    }
+    assert_eq!(place("UNH+1'BGM+?:'XYZ'"), (10, 3));
+    assert_eq!(place("UNH+1'BGM++:7'XYZ'"), (10, 3));
+}
+
+#[test]
 fn only_the_value_at_the_selector_decides() {
     let book = second_book();
     let has_a_home = |segment: &str| number_and_place(&book, segment).0 != 10;
@@ -87,7 +101,6 @@ fn only_the_value_at_the_selector_decides() {
     assert!(has_a_home("CCI+++Z16:?''"));
     for homeless in [
         "NAD'",
-        "NAD+'",
         "NAD+:MS'",
         "NAD++MS'",
         "NAD+M'",
@@ -97,15 +110,12 @@ fn only_the_value_at_the_selector_decides() {
         "NAD+Z13'",
         "CCI+Z15'",
         "CCI++Z15'",
-        "nad+MS'",
         "NAE+MS'",
     ] {
-        let expected = if homeless.starts_with('n') {
-            (0, 0)
-        } else {
-            (10, 1)
-        };
-        assert_eq!(number_and_place(&book, homeless), expected, "{homeless}");
+        assert_eq!(number_and_place(&book, homeless), (10, 1), "{homeless}");
+    }
+    for no_segment in ["nad+MS'", "NAD+'", "NAD+MS:'"] {
+        assert_eq!(number_and_place(&book, no_segment), (0, 0), "{no_segment}");
     }
 }
 
@@ -147,7 +157,15 @@ fn assert_components_as_read(text: &[u8], segment: segments::Segment, read: &rea
 
 #[test]
 fn short_texts_have_the_segments_that_the_reading_finds() {
-    for beginning in ["", "AAA", "A1A+", "AAA+a:?'+", "AAA+:a'A11"] {
+    for beginning in [
+        "",
+        "AAA",
+        "A1A+",
+        "A1A+a:",
+        "AAA+a:?'+",
+        "AAA+a?::",
+        "AAA+:a'A11",
+    ] {
         for_each_text(&ALPHABET, beginning.as_bytes(), 5, &mut |text| {
             assert_segments_as_read(text)
         });

@@ -1,7 +1,7 @@
-//! The reading against the definition: 01's own examples, and for tiny texts a
-//! brute-force search. The search writes every message up to a length from the
-//! writer's side and looks for one that continues the text, so it shares no
-//! thought with the reading.
+//! The reading against the definition: 01's own examples, those of T-05, and for
+//! tiny texts a brute-force search. The search writes every message up to a
+//! length from the writer's side and looks for one that continues the text, so
+//! it shares no thought with the reading.
 
 use super::*;
 use crate::enumeration::for_each_text;
@@ -45,14 +45,99 @@ fn faults_lie_at_their_own_offset() {
 }
 
 #[test]
+fn a_separator_before_an_end_is_needless_wherever_it_stands() {
+    for (segment, fault) in [
+        ("AAA+'", 4),
+        ("AAA++'", 5),
+        ("AAA+B+'", 6),
+        ("AAA+:'", 5),
+        ("AAA+B:'", 6),
+        ("AAA+B::'", 7),
+        ("AAA+:+B'", 5),
+        ("AAA+B:+C'", 6),
+        ("AAA+B::+C'", 7),
+        ("AAA+B:++C'", 6),
+        ("AAA+B:+'", 6),
+    ] {
+        for before in ["", "BBB+1'", "BBB'CCC+:?+'"] {
+            for after in ["", "DDD+1'", "DDD'EEE+'", "\n"] {
+                let text = [before, segment, after].concat();
+                assert_eq!(place(text.as_bytes()), before.len() + fault, "{text}");
+            }
+        }
+    }
+}
+
+#[test]
+fn needless_separators_of_the_envelope() {
+    assert_eq!(place(b"UNH+'UNT+2'"), 4);
+    assert_eq!(place(b"UNH+1:'UNT+2+1'"), 6);
+    assert_eq!(place(b"UNH+1:+2'UNT+2+1'"), 6);
+    assert_eq!(place(b"UNH+1'UNT+2+'"), 12);
+    assert_eq!(place(b"UNH+1'UNT+2+1+'"), 14);
+    assert_eq!(place(b"UNH+1'UNT+2+1:'"), 14);
+    assert_eq!(place(b"UNH+1'UNT+2:+1'"), 12);
+    assert_eq!(place(b"UNH+1'UNS+'UNT+3+1'"), 10);
+}
+
+#[test]
+fn the_separator_after_a_released_one_is_not_needless() {
+    for good in [
+        "AAA+?:'",
+        "AAA+?+'",
+        "AAA+?''",
+        "AAA+??'",
+        "AAA+?:+B'",
+        "AAA+?++B'",
+        "AAA+?'+B'",
+        "AAA+??+B'",
+        "AAA+B:?:+C'",
+        "AAA+?::B'",
+        "AAA+??:B'",
+        "AAA+???:'",
+        "AAA+:?:'",
+    ] {
+        assert!(read_message(good.as_bytes()).is_ok(), "{good}");
+    }
+    let segments = read_message(b"AAA+B:?:+C'").unwrap();
+    assert_eq!(segments[0].component(1, 2).unwrap().value, b":");
+    assert_eq!(place(b"AAA+?::'"), 7);
+    assert_eq!(place(b"AAA+?++'"), 7);
+    assert_eq!(place(b"AAA+??:+B'"), 7);
+    assert_eq!(place(b"AAA+???::'"), 9);
+}
+
+#[test]
+fn separators_before_data_part_empty_components_from_it() {
+    let segments = read_message(b"CTA+IC+:P GETTY'AAA++B+::C++:D'UNS'").unwrap();
+    assert_eq!(starts(&segments), [0, 16, 31]);
+    assert_eq!(segments[0].component(2, 2).unwrap().value, b"P GETTY");
+    let lengths = |segment: &Segment| segment.elements.iter().map(Vec::len).collect::<Vec<_>>();
+    assert_eq!(lengths(&segments[0]), [1, 2]);
+    assert_eq!(lengths(&segments[1]), [1, 1, 3, 1, 2]);
+    assert_eq!(lengths(&segments[2]), []);
+}
+
+#[test]
+fn a_text_cut_behind_a_separator_still_begins_a_message() {
+    for cut in [
+        "AAA+", "AAA++", "AAA+:", "AAA+B:", "AAA+B::", "AAA+?::", "AAA'AAA+",
+    ] {
+        assert_eq!(place(cut.as_bytes()), cut.len(), "{cut}");
+    }
+}
+
+#[test]
 fn components_are_found_at_their_own_place() {
-    let text = b"AAA+B:+?+C:D++'";
+    let text = b"AAA+B:E+?+C:D++:F'";
     assert_eq!(find_component(text, 0, 1, 1), part(4, 1));
-    assert_eq!(find_component(text, 0, 1, 2), part(6, 0));
-    assert_eq!(find_component(text, 0, 2, 1), part(7, 3));
-    assert_eq!(find_component(text, 0, 2, 2), part(11, 1));
-    assert_eq!(find_component(text, 0, 3, 1), part(13, 0));
-    assert_eq!(find_component(text, 0, 4, 1), part(14, 0));
+    assert_eq!(find_component(text, 0, 1, 2), part(6, 1));
+    assert_eq!(find_component(text, 0, 2, 1), part(8, 3));
+    assert_eq!(find_component(text, 0, 2, 2), part(12, 1));
+    assert_eq!(find_component(text, 0, 3, 1), part(14, 0));
+    assert_eq!(find_component(text, 0, 4, 1), part(15, 0));
+    assert_eq!(find_component(text, 0, 4, 2), part(16, 1));
+    assert_eq!(find_component(text, 0, 5, 1), part(17, 0));
 }
 
 #[test]
@@ -72,6 +157,26 @@ fn without_a_segment_or_a_number_the_part_lies_at_the_end() {
     assert_eq!(find_component(text, 0, 1, 0), part(8, 0));
 }
 
+#[test]
+fn a_needless_separator_leaves_no_segment_to_look_into() {
+    for text in [
+        "AAA+B+'BBB+C'",
+        "AAA+B:'BBB+C'",
+        "AAA+B:+D'BBB+C'",
+        "AAA+B+?::'BBB'",
+        "AAA+'",
+        "AAA+B:'",
+    ] {
+        let end = text.len();
+        assert_eq!(find_component(text.as_bytes(), 0, 1, 1), part(end, 0));
+        assert_eq!(find_component(text.as_bytes(), 0, 9, 9), part(end, 0));
+    }
+    let text = b"AAA+B'BBB+C:'CCC+D'";
+    assert_eq!(find_component(text, 0, 1, 1), part(4, 1));
+    assert_eq!(find_component(text, 6, 1, 1), part(19, 0));
+    assert_eq!(find_component(text, 13, 1, 1), part(17, 1));
+}
+
 /// A segment as its writer has it in mind.
 #[derive(Clone, Debug, PartialEq, Eq)]
 struct Intended {
@@ -82,15 +187,34 @@ struct Intended {
 const TAG: &[u8] = b"AAA";
 const VALUE_BYTES: &[u8] = b"Aa+:'?";
 const TEXT_BYTES: &[u8] = b"Aa+:'?\n";
-const LONGEST_TAIL: usize = 4;
-const LONGEST_TEXT: usize = TAG.len() + LONGEST_TAIL;
-const LONGEST_COMPLETION: usize = 6;
+/// Beginnings of the texts, and how many bytes follow them at most.
+const BEGINNINGS: [(&[u8], usize); 3] = [(b"", 5), (b"AAA", 6), (b"AAA'AAA", 3)];
+const LONGEST_TEXT: usize = 10;
+/// A byte more than any text needs: of a tag whose first byte is there, two
+/// bytes and `'` are missing, and nowhere more.
+const LONGEST_COMPLETION: usize = 4;
 
 fn bare_segment() -> Intended {
     Intended {
         tag: TAG.to_vec(),
         elements: Vec::new(),
     }
+}
+
+/// T-05: "An element is one empty component, or its last component has bytes; a
+/// segment's last element has bytes".
+fn is_valid(segment: &Intended) -> bool {
+    let last = segment.elements.last();
+    segment.elements.iter().all(is_valid_element) && last.is_none_or(|last| has_bytes(last))
+}
+
+fn is_valid_element(element: &Vec<Vec<u8>>) -> bool {
+    let is_one_empty = *element == [b""];
+    is_one_empty || element.last().is_some_and(|last| !last.is_empty())
+}
+
+fn has_bytes(element: &[Vec<u8>]) -> bool {
+    element.iter().any(|component| !component.is_empty())
 }
 
 fn written_value(value: &[u8]) -> Vec<u8> {
@@ -115,13 +239,22 @@ fn written_segment(segment: &Intended) -> Vec<u8> {
     text
 }
 
-/// The message with one segment, element, component or byte more. Every message
-/// comes from one bare segment by exactly one row of such steps.
+/// The message with one segment, element, component or byte more. Every valid
+/// message comes from one bare segment by exactly one row of such steps. On the
+/// way only what stands last may be invalid: nothing else changes any more.
 fn grown(message: &[Intended]) -> Vec<Vec<Intended>> {
-    let with_segment = [message, &[bare_segment()]].concat();
-    let with_element = changed_at_the_end(message, |last| last.elements.push(vec![Vec::new()]));
-    let mut all = vec![with_segment, with_element];
-    if message.last().is_some_and(|last| !last.elements.is_empty()) {
+    let last = message.last().expect("a segment");
+    let last_element = last.elements.last();
+    let mut all = Vec::new();
+    if is_valid(last) {
+        all.push([message, &[bare_segment()]].concat());
+    }
+    if last_element.is_none_or(is_valid_element) {
+        all.push(changed_at_the_end(message, |last| {
+            last.elements.push(vec![Vec::new()])
+        }));
+    }
+    if last_element.is_some() {
         all.push(changed_at_the_end(message, |last| {
             last.elements.last_mut().unwrap().push(Vec::new())
         }));
@@ -141,13 +274,16 @@ fn changed_at_the_end(message: &[Intended], change: impl Fn(&mut Intended)) -> V
     changed
 }
 
-/// Visits every message of at most this length, with its text.
+/// Visits every valid message of at most this length, with its text, and those
+/// invalid ones that lead to them.
 fn for_each_message(longest: usize, visit: &mut impl FnMut(&[u8], &[Intended])) {
     let mut waiting = vec![vec![bare_segment()]];
     while let Some(message) = waiting.pop() {
         let text: Vec<u8> = message.iter().flat_map(written_segment).collect();
         if text.len() <= longest {
             visit(&text, &message);
+        }
+        if text.len() < longest {
             waiting.extend(grown(&message));
         }
     }
@@ -202,12 +338,18 @@ impl Definition {
 fn tiny_texts_are_read_as_the_definition_says() {
     let mut definition = Definition::default();
     for_each_message(LONGEST_TEXT + LONGEST_COMPLETION, &mut |text, intended| {
-        let segments = read_message(text).expect("a written message is well-formed");
+        let read = read_message(text);
+        if !intended.iter().all(is_valid) {
+            assert!(read.is_err(), "on {}", text.escape_ascii());
+            return;
+        }
+        let segments = read.expect("a valid message is well-formed");
         assert_eq!(understood(&segments), intended);
         definition.add(text);
     });
-    for beginning in [b"".as_slice(), TAG] {
-        for_each_text(TEXT_BYTES, beginning, LONGEST_TAIL, &mut |text| {
+    for (beginning, longest_tail) in BEGINNINGS {
+        assert!(beginning.len() + longest_tail <= LONGEST_TEXT);
+        for_each_text(TEXT_BYTES, beginning, longest_tail, &mut |text| {
             definition.assert_read_accordingly(text)
         });
     }

@@ -2,7 +2,7 @@
 use native.Mathlib.Omega.{arith}
 use mathlib.Core.Path.{refl, sym, ap}
 use Rattle.reading.specs.method.Machine.{orLength}
-use Rattle.reading.proofs.Ending.{tag-there, tag-missing, tagged-inside, tagged-found, tagged-bad}
+use Rattle.reading.proofs.Ending.{tag-there, tag-missing, tagged-opened, tagged-found, tagged-bad}
 use borrow.Author.Needs.{needs}
 use Rattle.reading.proofs.segment.find_end.Statement.{statement}
 use Rattle.reading.proofs.segment.find_end.Tie as tie
@@ -81,7 +81,7 @@ returns-3 c =
     let if1 = c .before .before .before .before .before .if1 in
     let has-tag = c .before .before .before .before .before .before .has-tag in
     let args = c .before .before .before .before .before .before .before .before .args in
-    let t = tag-there (args .message .now) (args .at) (has-tag .result) (has-tag .ensures) (if1 .left) in tagged-inside (args .service) (args .message .now) (args .at) (t .0) (t .1 (args .service)) _ (kind-of .ensures) (c .before .enum-told2 .given .1) _ (c .end-inside .ensures)
+    let t = tag-there (args .message .now) (args .at) (has-tag .result) (has-tag .ensures) (if1 .left) in tagged-opened (args .service) (args .message .now) (args .at) (t .0) (t .1 (args .service)) _ (kind-of .ensures) (c .before .enum-told2 .given .1) _ (c .end-inside .ensures)
 
 returns-4 : tie.Need-returns-4
 returns-4 c =

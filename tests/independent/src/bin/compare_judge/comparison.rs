@@ -7,6 +7,7 @@ use independent::difference::print_input;
 use independent::judging::plain::judge_by_fillings;
 use independent::judging::{judge, Record, UNKNOWN};
 use independent::lent::{empty_table, entry_in_words, entry_number, lent, TABLE_NAMES};
+use independent::needless::{needless_at, Causes};
 use independent::placing::segments::Segments;
 use independent::random::Random;
 use independent::times::Slowest;
@@ -49,6 +50,8 @@ type Tables = [Vec<u32>; 3];
 
 pub struct Comparison {
     met: [u64; NUMBERS],
+    /// The needless separators among the causes of number 4.
+    needless: Causes,
     /// How many cases were put to the plain judge, and how many of these had
     /// unknown conditions, without and with a verdict that they leave open.
     plain: u64,
@@ -63,6 +66,7 @@ impl Comparison {
     pub fn new(seed: u64) -> Comparison {
         Comparison {
             met: [0; NUMBERS],
+            needless: Causes::default(),
             plain: 0,
             unknown_decided: 0,
             unknown_open: 0,
@@ -91,8 +95,17 @@ impl Comparison {
         );
         self.compare_with_plain(case, lengths, record);
         self.compare_with_archive(case, lengths, record, &expected);
-        self.met[record.number as usize] += 1;
+        self.count(case.message, record);
         record
+    }
+
+    fn count(&mut self, message: &[u8], record: Record) {
+        self.met[record.number as usize] += 1;
+        if record.number == 4 {
+            if let Some(needless) = needless_at(message, record.place as usize) {
+                self.needless.add(needless);
+            }
+        }
     }
 
     /// Demand 3, if conditions are unknown.
@@ -199,6 +212,8 @@ impl Comparison {
         for (number, (count, words)) in self.met.iter().zip(WORDS).enumerate() {
             println!("{number:>9} {count:>9}  {words}");
         }
+        println!("compare_judge: the needless separators");
+        self.needless.print();
         println!(
             "compare_judge: {} cases also judged plainly; of these {} have unknown conditions, \
              {} are the same in every filling and {} are not",
@@ -213,6 +228,11 @@ impl Comparison {
     /// A number that was not met so often.
     pub fn first_below(&self, least: u64) -> Option<usize> {
         self.met.iter().position(|count| *count < least)
+    }
+
+    /// A needless separator that was not met so often.
+    pub fn first_needless_below(&self, least: u64) -> Option<String> {
+        self.needless.first_below(least)
     }
 }
 

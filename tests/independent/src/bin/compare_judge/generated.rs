@@ -8,7 +8,8 @@ use independent::book::encode::encode;
 use independent::book::generate::{good_book, Size};
 use independent::book::limits::every_limit;
 use independent::book::Book;
-use independent::judging::damage::{damage, damage_bytes};
+use independent::breaking::{damage_bytes, put_needless_separator};
+use independent::judging::damage::damage;
 use independent::judging::fitting::{fitting_message, livable_book, write_message, Purpose};
 use independent::judging::UNKNOWN;
 use independent::random::Random;
@@ -28,6 +29,7 @@ const ANY_BOOKS: (usize, usize, usize) = (1_000, 14, 8);
 const BROKEN_BOOKS: usize = 4;
 const BROKEN_CONDITIONS: usize = 3;
 const BROKEN_BYTES: usize = 4;
+const NEEDLESS_SEPARATORS: usize = 3;
 const EMPTY_MESSAGES: usize = 2;
 const NOISE: usize = 1;
 
@@ -124,6 +126,9 @@ impl Subject<'_> {
             for _ in 0..random.between(1, 2) {
                 damage_bytes(random, &mut message);
             }
+        }
+        if random.chance(NEEDLESS_SEPARATORS) {
+            put_needless_separator(random, &mut message);
         }
         message
     }

@@ -63,9 +63,11 @@ fn compare_lengths(comparison: &mut Comparison, book: &[u8]) {
         [1; 3],
         Record::at(7, 1),
     );
-    longest[LONGEST_MESSAGE - 1] = b'\n';
     let at_the_end = Record::at(4, LONGEST_MESSAGE - 1);
-    require(comparison, &case(longest, book, &[0]), [1; 3], at_the_end);
+    for fault in [b"A\n", b"+'", b":'", b":+"] {
+        longest[LONGEST_MESSAGE - 2..].copy_from_slice(fault);
+        require(comparison, &case(longest, book, &[0]), [1; 3], at_the_end);
+    }
     let whole = [
         b"UNH+1'BGM+7'RFF+Z13:",
         &message[4..LONGEST_MESSAGE - 29],

@@ -19,6 +19,8 @@ use std::process::ExitCode;
 
 /// Each number must have been met so often.
 const LEAST: u64 = 2_000;
+/// Each needless separator at each position must have been met so often.
+const LEAST_NEEDLESS: u64 = 100;
 const LEAST_IN_ALL: u64 = 200_000;
 
 fn main() -> ExitCode {
@@ -45,6 +47,10 @@ fn conclude(comparison: &Comparison) -> ExitCode {
     comparison.print();
     if let Some(number) = comparison.first_below(LEAST) {
         println!("compare_judge: number {number} was met fewer than {LEAST} times");
+        return ExitCode::FAILURE;
+    }
+    if let Some(needless) = comparison.first_needless_below(LEAST_NEEDLESS) {
+        println!("compare_judge: {needless} was met fewer than {LEAST_NEEDLESS} times");
         return ExitCode::FAILURE;
     }
     if comparison.total() < LEAST_IN_ALL {

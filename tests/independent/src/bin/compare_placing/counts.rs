@@ -2,7 +2,10 @@
 //! looked, and how many of each it met.
 
 use crate::subject::{Expected, Subject, Verdict};
+use independent::bytes::Service;
 use independent::described;
+use independent::machine::scan;
+use independent::needless::{needless_at, Causes};
 use independent::placing::homes::Homeless;
 use independent::placing::segments::Segments;
 use independent::placing::walk::Refusal;
@@ -29,6 +32,8 @@ pub struct Counts {
     by_refusal: Vec<u64>,
     /// Messages over good books with bytes after their last segment.
     broken_off: u64,
+    /// Those where that is so for a needless separator.
+    needless: Causes,
 }
 
 impl Counts {
@@ -37,13 +42,16 @@ impl Counts {
             by_kind: vec![0; Kind::EVERY.len()],
             by_refusal: vec![0; Refusal::EVERY.len()],
             broken_off: 0,
+            needless: Causes::default(),
         }
     }
 
     pub fn add(&mut self, subject: &Subject, message: &[u8], expected: &Expected) {
         let kind = match expected.verdict {
             Verdict::Exactly(answer) => {
-                self.broken_off += u64::from(is_broken_off(message, expected));
+                if is_broken_off(message, expected) {
+                    self.add_broken_off(message);
+                }
                 match answer {
                     Answer::Begins { .. } => kind_of_allowed(subject, expected),
                     Answer::Homeless { place } => {
@@ -62,6 +70,14 @@ impl Counts {
         self.by_kind[kind as usize] += 1;
     }
 
+    fn add_broken_off(&mut self, message: &[u8]) {
+        self.broken_off += 1;
+        let fault = scan(Service::STANDARD, message).err();
+        if let Some(needless) = fault.and_then(|place| needless_at(message, place)) {
+            self.needless.add(needless);
+        }
+    }
+
     pub fn total(&self) -> u64 {
         self.by_kind.iter().chain(&self.by_refusal).sum()
     }
@@ -75,6 +91,8 @@ impl Counts {
         for (refusal, count) in Refusal::EVERY.iter().zip(&self.by_refusal) {
             println!("{count:>9}  11: {}", refusal.description());
         }
+        println!("compare_placing: the needless separators that messages break off at");
+        self.needless.print();
         println!(
             "compare_placing: over good books {} times 0, {} times 10, {} times 11; \
              {} of these messages break off",
@@ -91,7 +109,7 @@ impl Counts {
     }
 
     /// A kind that no message had.
-    pub fn first_missing(&self) -> Option<&'static str> {
+    pub fn first_missing(&self) -> Option<String> {
         let kinds = Kind::EVERY.iter().map(|kind| kind.description());
         let refusals = Refusal::EVERY.iter().map(|refusal| refusal.description());
         let broken_off = [("a message that breaks off", &self.broken_off)];
@@ -100,7 +118,8 @@ impl Counts {
             .chain(refusals.zip(&self.by_refusal))
             .chain(broken_off)
             .find(|(_, count)| **count == 0)
-            .map(|(description, _)| description)
+            .map(|(description, _)| description.to_string())
+            .or_else(|| self.needless.first_below(1))
     }
 }
 

@@ -6,6 +6,7 @@ use crate::generated::random_message;
 use crate::subject::Subject;
 use independent::book::damage::{every_damage, has_room};
 use independent::book::generate::{good_book, Size};
+use independent::breaking::damage_bytes;
 use independent::random::Random;
 
 const BOOKS: usize = 60;
@@ -36,21 +37,12 @@ fn compare_around(comparison: &mut Comparison, random: &mut Random, subject: &Su
     compare_changed_books(comparison, random, subject);
 }
 
-/// Messages with a byte changed, put in, taken out, or cut off somewhere.
+/// Messages with a byte changed, put in or taken out, a separator that is
+/// needless, or a cut somewhere.
 fn compare_broken_messages(comparison: &mut Comparison, random: &mut Random, subject: &Subject) {
     for _ in 0..BROKEN_MESSAGES_PER_BOOK {
         let mut message = random_message(random, subject);
-        if message.is_empty() {
-            continue;
-        }
-        let at = random.below(message.len());
-        match random.below(5) {
-            0 => message[at] = random.byte(),
-            1 => message[at] = random.pick(b":+'?A\n"),
-            2 => message.insert(at, random.pick(b":+'?A\n")),
-            3 => drop(message.remove(at)),
-            _ => message.truncate(at),
-        }
+        damage_bytes(random, &mut message);
         comparison.compare(subject, &message);
     }
 }

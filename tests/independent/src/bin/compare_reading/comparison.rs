@@ -1,7 +1,8 @@
 //! One question at a time, put to the proved archives and to the independent
 //! reading. The first difference is printed and ends the program.
 
-use crate::kinds::{Counts, Kind};
+use crate::counts::Counts;
+use crate::kinds::Kind;
 use independent::archives::{self, SUPPOSED_ENTRIES};
 use independent::judging::plain::judge_message;
 use independent::judging::Record;
@@ -63,8 +64,7 @@ impl Comparison {
             let near = fault.unwrap_or(text.len());
             report(text, near, "number and place", &expected, &answered);
         }
-        let kind = Kind::of_message(text, segments, record);
-        self.counts.add_message(kind, record.number);
+        self.counts.add_message(text, segments, record);
         record
     }
 
@@ -91,11 +91,7 @@ impl Comparison {
             let question = format!("offset after the segment at {at} (0: no segment)");
             report(text, at, &question, &expected, &answered);
         }
-        self.counts.add(match segment {
-            Some(_) => Kind::NextAfterSegment,
-            None if at > text.len() => Kind::NextPastTheEnd,
-            None => Kind::NextWithoutSegment,
-        });
+        self.counts.add(Kind::of_next(text, at, segment));
     }
 
     /// The segment at an offset, and its components at every pair of the numbers.
@@ -132,7 +128,7 @@ impl Comparison {
             }
         }
         self.counts
-            .add(kind_of_lookup(text, at, segment, element, component));
+            .add(Kind::of_lookup(text, at, segment, element, component));
     }
 }
 
@@ -149,44 +145,6 @@ fn table_with(part: Part, length: usize) -> Table {
     let fitting = length.min(entries.len());
     table[MARGIN..MARGIN + fitting].copy_from_slice(&entries[..fitting]);
     table
-}
-
-fn kind_of_lookup(
-    text: &[u8],
-    at: usize,
-    segment: Option<&Segment>,
-    element: usize,
-    component: usize,
-) -> Kind {
-    let Some(segment) = segment else {
-        return if at > text.len() {
-            Kind::LookupPastTheEnd
-        } else {
-            Kind::LookupWithoutSegment
-        };
-    };
-    if element == 0 || component == 0 {
-        return Kind::LookupOfNumberZero;
-    }
-    let Some(found) = segment.component(element, component) else {
-        return if element > segment.elements.len() {
-            Kind::AbsentElement
-        } else {
-            Kind::AbsentComponent
-        };
-    };
-    let number = element.max(component);
-    if number > usize::from(u16::MAX) {
-        Kind::PresentBeyond16Bits
-    } else if number > usize::from(u8::MAX) {
-        Kind::PresentBeyond8Bits
-    } else if found.start == found.end {
-        Kind::PresentEmpty
-    } else if found.is_released() {
-        Kind::PresentReleased
-    } else {
-        Kind::PresentPlain
-    }
 }
 
 /// Prints the first difference and ends the program.

@@ -2,10 +2,11 @@
 //! byte in tag, count and reference, and random ones, right and wrong.
 
 use crate::comparison::Comparison;
-use crate::generated::{damage, write_segment};
+use crate::generated::write_any_segment;
+use independent::breaking::damage_bytes;
 use independent::envelope::{for_each_byte, for_each_closing, for_each_envelope};
 use independent::random::Random;
-use independent::writing::write_component;
+use independent::writing::{any_component, write_segment, Elements};
 
 const LONGEST_MIDDLE: usize = 3;
 const SHORT_MESSAGES: usize = 30_000;
@@ -36,7 +37,7 @@ pub fn compare_random_ones(comparison: &mut Comparison, random: &mut Random) {
 fn compare_random(comparison: &mut Comparison, random: &mut Random, segments: usize) {
     let mut text = message(random, segments);
     comparison.compare_text(&text);
-    damage(random, &mut text);
+    damage_bytes(random, &mut text);
     comparison.compare_text(&text);
 }
 
@@ -45,8 +46,7 @@ fn compare_random(comparison: &mut Comparison, random: &mut Random, segments: us
 fn message(random: &mut Random, segments: usize) -> Vec<u8> {
     let mut middle: Vec<Vec<u8>> = (0..segments).map(|_| segment(random)).collect();
     let mut count = (segments + 2).to_string();
-    let mut opening = Vec::new();
-    write_component(random, &mut opening);
+    let mut opening = any_component(random);
     let mut closing = opening.clone();
     match random.below(10) {
         0 => {
@@ -55,25 +55,37 @@ fn message(random: &mut Random, segments: usize) -> Vec<u8> {
             count = (segments + 3).to_string();
         }
         1 => count = wrong_count(random, segments + 2),
-        2 => {
-            closing.clear();
-            write_component(random, &mut closing);
-        }
-        3 => damage(random, &mut closing),
-        4 => damage(random, &mut opening),
+        2 => closing = any_component(random),
+        3 => damage_bytes(random, &mut closing),
+        4 => damage_bytes(random, &mut opening),
         _ => {}
     }
-    let mut text = [b"UNH+", opening.as_slice()].concat();
-    text.extend(random.pick(&["'", "'", ":9+UNT+1'"]).as_bytes());
+    let mut text = Vec::new();
+    write_segment(*b"UNH", &with_more(random, vec![vec![opening]]), &mut text);
     text.extend(middle.concat());
-    text.extend([b"UNT+", count.as_bytes(), b"+", &closing].concat());
-    text.extend(random.pick(&["'", "'", "++:'"]).as_bytes());
+    let elements = vec![vec![count.into_bytes()], vec![closing]];
+    write_segment(*b"UNT", &with_more(random, elements), &mut text);
     text
+}
+
+/// In a third of the cases with more data, which nothing looks at.
+fn with_more(random: &mut Random, mut elements: Elements) -> Elements {
+    let [unt, one, nine] = ["UNT", "1", "9"].map(|text| text.as_bytes().to_vec());
+    match random.below(6) {
+        0 => elements.extend([vec![Vec::new()], vec![Vec::new(), nine]]),
+        1 => {
+            let last = elements.len() - 1;
+            elements[last].push(nine);
+            elements.extend([vec![unt], vec![one]]);
+        }
+        _ => {}
+    }
+    elements
 }
 
 fn segment(random: &mut Random) -> Vec<u8> {
     let mut text = Vec::new();
-    write_segment(random, &mut text);
+    write_any_segment(random, &mut text);
     text
 }
 

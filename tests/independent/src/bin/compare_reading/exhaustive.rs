@@ -1,6 +1,6 @@
 //! Every short text over a small alphabet, alone and after beginnings that
-//! bring the reading into its deeper states, and every pair of bytes in every
-//! state.
+//! bring the reading into its deeper states, behind `+` and behind `:` too, and
+//! every pair of bytes in every state.
 
 use crate::comparison::Comparison;
 use independent::enumeration::{for_each_text, ALPHABET};
@@ -13,7 +13,7 @@ struct Family {
     longest_tail_with_lookups: usize,
 }
 
-const FAMILIES: [Family; 5] = [
+const FAMILIES: [Family; 9] = [
     Family {
         beginning: "",
         longest_tail: 7,
@@ -30,8 +30,18 @@ const FAMILIES: [Family; 5] = [
         longest_tail_with_lookups: 4,
     },
     Family {
+        beginning: "A1A+a:",
+        longest_tail: 4,
+        longest_tail_with_lookups: 4,
+    },
+    Family {
         beginning: "A1A+a:?'+",
         longest_tail: 6,
+        longest_tail_with_lookups: 4,
+    },
+    Family {
+        beginning: "A1A+a?::",
+        longest_tail: 5,
         longest_tail_with_lookups: 4,
     },
     Family {
@@ -39,11 +49,23 @@ const FAMILIES: [Family; 5] = [
         longest_tail: 6,
         longest_tail_with_lookups: 4,
     },
+    Family {
+        beginning: "AAA'A11+a?+",
+        longest_tail: 5,
+        longest_tail_with_lookups: 3,
+    },
+    Family {
+        beginning: "AAA'A11+:",
+        longest_tail: 5,
+        longest_tail_with_lookups: 3,
+    },
 ];
 
-/// One beginning for each state, and two that begin no message at all.
-const STATES: [&str; 11] = [
-    "", "A", "AA", "AAA", "AAA+", "AAA+a", "AAA+a:", "AAA+?", "AAA+??", "a", "AAA+?a",
+/// A beginning for each state, more for some, and two that begin no message at
+/// all.
+const STATES: [&str; 13] = [
+    "", "A", "AA", "AAA", "AAA+", "AAA+a", "AAA+:", "AAA+a:", "AAA+?", "AAA+??", "AAA+?:", "a",
+    "AAA+?a",
 ];
 const ENDINGS: [&str; 3] = ["", "'", "A+a'"];
 const SMALL_NUMBERS: [usize; 5] = [0, 1, 2, 3, 4];

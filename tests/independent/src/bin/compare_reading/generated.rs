@@ -2,12 +2,12 @@
 //! short ones and some of hundreds of kilobytes.
 
 use crate::comparison::Comparison;
-use independent::bytes::{is_tag_byte, Service};
+use independent::breaking::damage_bytes;
+use independent::bytes::is_tag_byte;
 use independent::random::Random;
 use independent::reading::{read_message, starts};
-use independent::writing::{byte_such_that, write_component};
+use independent::writing::{any_elements, byte_such_that, write_segment};
 
-const SERVICE: Service = Service::STANDARD;
 const SHORT_TEXTS: usize = 15_000;
 const LONG_TEXTS: usize = 24;
 const LONG_TEXT_BYTES: usize = 400_000;
@@ -50,7 +50,7 @@ fn compare_with_damage(comparison: &mut Comparison, random: &mut Random, mut tex
     let offsets = likely_offsets(random, &text);
     compare_at(comparison, random, &text, &offsets);
     for _ in 0..random.between(1, 3) {
-        damage(random, &mut text);
+        damage_bytes(random, &mut text);
         compare_at(comparison, random, &text, &offsets);
     }
 }
@@ -92,7 +92,7 @@ fn message(random: &mut Random, is_enough: impl Fn(SoFar) -> bool) -> Vec<u8> {
     let mut text = Vec::new();
     let mut segments = 0;
     loop {
-        write_segment(random, &mut text);
+        write_any_segment(random, &mut text);
         segments += 1;
         let bytes = text.len();
         if is_enough(SoFar { segments, bytes }) {
@@ -101,33 +101,7 @@ fn message(random: &mut Random, is_enough: impl Fn(SoFar) -> bool) -> Vec<u8> {
     }
 }
 
-pub fn write_segment(random: &mut Random, text: &mut Vec<u8>) {
-    for _ in 0..3 {
-        text.push(byte_such_that(random, is_tag_byte));
-    }
-    for _ in 0..random.below(6) {
-        text.push(SERVICE.element);
-        write_component(random, text);
-        for _ in 0..random.below(4) {
-            text.push(SERVICE.component);
-            write_component(random, text);
-        }
-    }
-    text.push(SERVICE.terminator);
-}
-
-/// A change, a loss, an insertion or a cut at some byte.
-pub fn damage(random: &mut Random, text: &mut Vec<u8>) {
-    if text.is_empty() {
-        text.push(random.byte());
-        return;
-    }
-    let at = random.below(text.len());
-    match random.below(5) {
-        0 => text[at] = random.byte(),
-        1 => text[at] = random.pick(b":+'?A\n"),
-        2 => text.insert(at, random.pick(b":+'?A\n")),
-        3 => drop(text.remove(at)),
-        _ => text.truncate(at),
-    }
+pub fn write_any_segment(random: &mut Random, text: &mut Vec<u8>) {
+    let tag = [(); 3].map(|()| byte_such_that(random, is_tag_byte));
+    write_segment(tag, &any_elements(random), text);
 }

@@ -1,10 +1,11 @@
-//! The kinds of cases a run must meet, so that it cannot pass without having
-//! looked: every outcome of a message alone, of a segment's end and of a lookup.
+//! The kinds of cases: every outcome of a message alone, of a segment's end and
+//! of a lookup.
 
 use independent::bytes::Service;
 use independent::described;
 use independent::judging::Record;
 use independent::machine::{state_after, State};
+use independent::needless::{is_good_but_for_needless, needless_at};
 use independent::reading::{Component, Segment};
 
 described! {
@@ -20,12 +21,17 @@ described! {
         FaultInSecond: "4: fault at a tag's second byte",
         FaultInThird: "4: fault at a tag's third byte",
         FaultInTagged: "4: fault after a tag",
-        FaultInInside: "4: fault within elements",
+        FaultInOpened: "4: fault after `+`, no needless separator",
+        FaultInParted: "4: fault after `:`, no needless separator",
+        NeedlessSeparator: "4: a needless separator",
+        FaultInInside: "4: fault after data",
         FaultInReleased: "4: fault after a release",
         CutInSecond: "4: cut after a tag's first byte",
         CutInThird: "4: cut after a tag's second byte",
         CutInTagged: "4: cut after a tag",
-        CutInInside: "4: cut within elements",
+        CutInOpened: "4: cut after `+`",
+        CutInParted: "4: cut after `:`",
+        CutInInside: "4: cut after data",
         CutInReleased: "4: cut after a release",
         TooManySegments: "5: over 999,999 segments",
         OnlyOne: "7: only one segment",
@@ -45,9 +51,11 @@ described! {
         OtherReference: "9: another reference",
         NextAfterSegment: "next: after a segment",
         NextWithoutSegment: "next: no segment at the offset",
+        NextButForNeedless: "next: a segment but for needless separators",
         NextPastTheEnd: "next: offset past the end",
         LookupOfNumberZero: "lookup: number 0",
         LookupWithoutSegment: "lookup: no segment at the offset",
+        LookupButForNeedless: "lookup: a segment but for needless separators",
         LookupPastTheEnd: "lookup: offset past the end",
         PresentPlain: "lookup: present",
         PresentReleased: "lookup: present with a release",
@@ -68,6 +76,7 @@ impl Kind {
         match record.number {
             3 if text.is_empty() => Kind::Empty,
             3 => Kind::TooLong,
+            4 if needless_at(text, place).is_some() => Kind::NeedlessSeparator,
             4 if place < text.len() => {
                 fault_in(state_after(Service::STANDARD, &text[..place]), place)
             }
@@ -77,6 +86,41 @@ impl Kind {
             8 => counted_wrongly(segments),
             9 => referred_wrongly(segments),
             _ => accepted(segments),
+        }
+    }
+
+    /// By what segment starts at the offset.
+    pub fn of_next(text: &[u8], at: usize, segment: Option<&Segment>) -> Kind {
+        match segment {
+            Some(_) => Kind::NextAfterSegment,
+            None if at > text.len() => Kind::NextPastTheEnd,
+            None if is_good_but_for_needless(text, at) => Kind::NextButForNeedless,
+            None => Kind::NextWithoutSegment,
+        }
+    }
+
+    /// By what segment starts at the offset, and what it has at the numbers.
+    pub fn of_lookup(
+        text: &[u8],
+        at: usize,
+        segment: Option<&Segment>,
+        element: usize,
+        component: usize,
+    ) -> Kind {
+        let Some(segment) = segment else {
+            return match () {
+                () if at > text.len() => Kind::LookupPastTheEnd,
+                () if is_good_but_for_needless(text, at) => Kind::LookupButForNeedless,
+                () => Kind::LookupWithoutSegment,
+            };
+        };
+        if element == 0 || component == 0 {
+            return Kind::LookupOfNumberZero;
+        }
+        match segment.component(element, component) {
+            Some(found) => present(found, element.max(component)),
+            None if element > segment.elements.len() => Kind::AbsentElement,
+            None => Kind::AbsentComponent,
         }
     }
 }
@@ -89,6 +133,8 @@ fn fault_in(state: State, offset: usize) -> Kind {
         State::Second => Kind::FaultInSecond,
         State::Third => Kind::FaultInThird,
         State::Tagged => Kind::FaultInTagged,
+        State::Opened => Kind::FaultInOpened,
+        State::Parted => Kind::FaultInParted,
         State::Inside => Kind::FaultInInside,
         State::Released => Kind::FaultInReleased,
         State::Dead => unreachable!("number 4's place lies at the first fault"),
@@ -101,6 +147,8 @@ fn cut_in(state: State) -> Kind {
         State::Second => Kind::CutInSecond,
         State::Third => Kind::CutInThird,
         State::Tagged => Kind::CutInTagged,
+        State::Opened => Kind::CutInOpened,
+        State::Parted => Kind::CutInParted,
         State::Inside => Kind::CutInInside,
         State::Released => Kind::CutInReleased,
         State::Start => unreachable!("whole segments are well-formed, and no bytes are number 3"),
@@ -161,7 +209,7 @@ fn accepted(segments: &[Segment]) -> Kind {
     match opening {
         _ if segments.len() > NARROW => Kind::AcceptedBeyond16Bits,
         Some(found) if found.is_released() => Kind::AcceptedWithRelease,
-        Some(found) if found.start < found.end => Kind::Accepted,
+        Some(found) if !found.is_empty() => Kind::Accepted,
         _ => Kind::AcceptedWithoutReference,
     }
 }
@@ -170,52 +218,17 @@ fn value(component: Option<&Component>) -> &[u8] {
     component.map_or(&[], |found| &found.value)
 }
 
-/// Numbers up to this one are of the message alone.
-const HIGHEST_NUMBER: usize = 9;
-
-/// How many cases of each kind were compared, and messages of each number.
-pub struct Counts {
-    by_kind: Vec<u64>,
-    by_number: [u64; HIGHEST_NUMBER + 1],
-}
-
-impl Counts {
-    pub fn new() -> Counts {
-        Counts {
-            by_kind: vec![0; Kind::EVERY.len()],
-            by_number: [0; HIGHEST_NUMBER + 1],
-        }
-    }
-
-    pub fn add(&mut self, kind: Kind) {
-        self.by_kind[kind as usize] += 1;
-    }
-
-    /// A case, and a message with this number.
-    pub fn add_message(&mut self, kind: Kind, number: u32) {
-        self.add(kind);
-        self.by_number[number as usize] += 1;
-    }
-
-    pub fn total(&self) -> u64 {
-        self.by_kind.iter().sum()
-    }
-
-    pub fn print(&self) {
-        for (kind, count) in Kind::EVERY.iter().zip(&self.by_kind) {
-            println!("{count:>12}  {}", kind.description());
-        }
-        let numbers = self.by_number.iter().enumerate();
-        let met = numbers.filter(|(_, count)| **count > 0);
-        let words: Vec<String> = met
-            .map(|(number, count)| format!("{count} times {number}"))
-            .collect();
-        println!("compare_reading: of messages alone {}", words.join(", "));
-    }
-
-    pub fn first_missing(&self) -> Option<&'static str> {
-        let mut counted = Kind::EVERY.iter().zip(&self.by_kind);
-        let missing = counted.find(|(_, count)| **count == 0);
-        missing.map(|(kind, _)| kind.description())
+/// The kind of a lookup that finds this component, by the higher of its numbers.
+fn present(found: &Component, number: usize) -> Kind {
+    if number > NARROW {
+        Kind::PresentBeyond16Bits
+    } else if number > usize::from(u8::MAX) {
+        Kind::PresentBeyond8Bits
+    } else if found.is_empty() {
+        Kind::PresentEmpty
+    } else if found.is_released() {
+        Kind::PresentReleased
+    } else {
+        Kind::PresentPlain
     }
 }

@@ -4,9 +4,11 @@
 //! `compare_reading [SEED]`
 
 mod comparison;
+mod counts;
 mod enveloped;
 mod exhaustive;
 mod generated;
+mod harmless;
 mod kinds;
 mod wide;
 

@@ -10,10 +10,15 @@ const MANY_COUNTED: [usize; 6] = [65_535, 65_536, 65_537, 70_000, 131_073, MOST_
 
 pub fn compare_all(comparison: &mut Comparison) {
     for width in WIDTHS {
-        compare_elements(comparison, "+7", width);
-        compare_elements(comparison, "+", width);
-        compare_components(comparison, "7", width);
-        compare_components(comparison, "", width);
+        let empty = width - 1;
+        compare_segment(comparison, &"+7".repeat(width), width);
+        compare_segment(comparison, &format!("+7{}", ":7".repeat(empty)), width);
+        compare_segment(comparison, &format!("{}+7", "+".repeat(empty)), width);
+        compare_segment(comparison, &format!("+{}7", ":".repeat(empty)), width);
+        // Nothing but needless separators, and one far from the first byte.
+        compare_segment(comparison, &"+".repeat(width), width);
+        compare_segment(comparison, &format!("+{}", ":".repeat(width)), width);
+        compare_segment(comparison, &format!("{}:+7", "+7".repeat(width)), width);
     }
     for segments in MANY_SEGMENTS {
         let message = "UNS'".repeat(segments).into_bytes();
@@ -23,21 +28,11 @@ pub fn compare_all(comparison: &mut Comparison) {
     }
 }
 
-fn compare_elements(comparison: &mut Comparison, element: &str, width: usize) {
-    let segment = format!("AAA{}'", element.repeat(width));
-    compare_segment(comparison, &segment, width);
-}
-
-fn compare_components(comparison: &mut Comparison, component: &str, width: usize) {
-    let components = vec![component; width].join(":");
-    compare_segment(comparison, &format!("AAA+{components}'"), width);
-}
-
-/// The segment between others, asked for numbers around its own width and
-/// around those that equal it or 1 in fewer bits.
-fn compare_segment(comparison: &mut Comparison, segment: &str, width: usize) {
+/// The segment with these elements between others, asked for numbers around its
+/// own width and around those that equal it or 1 in fewer bits.
+fn compare_segment(comparison: &mut Comparison, elements: &str, width: usize) {
     let before = "UNH+1'";
-    let message = format!("{before}{segment}UNT+3+1'").into_bytes();
+    let message = format!("{before}AAA{elements}'UNT+3+1'").into_bytes();
     let wrapped = [
         width % 256,
         width % 65_536,
@@ -65,11 +60,16 @@ pub fn compare_envelopes(comparison: &mut Comparison) {
 }
 
 fn enveloped(middle: &str, count: &str, reference: &str) -> Vec<u8> {
-    format!("UNH+1'{middle}UNT+{count}+{reference}'").into_bytes()
+    closed(middle, &format!("{count}+{reference}"))
 }
 
-/// So many segments with the right count, with others, and with another
-/// reference.
+/// With these elements in UNT.
+fn closed(middle: &str, elements: &str) -> Vec<u8> {
+    format!("UNH+1'{middle}UNT+{elements}'").into_bytes()
+}
+
+/// So many segments with the right count, with others, with another reference
+/// or none, and with a needless separator at the end.
 fn compare_counts(comparison: &mut Comparison, segments: usize) {
     let middle = "UNS'".repeat(segments - 2);
     let count = segments.to_string();
@@ -85,9 +85,13 @@ fn compare_counts(comparison: &mut Comparison, segments: usize) {
         let message = enveloped(&middle, &wrong.to_string(), "1");
         require(comparison, &message, Record::at(8, segments));
     }
-    for wrong in ["2", "11", ""] {
-        let message = enveloped(&middle, &count, wrong);
+    for wrong in ["+2", "+11", "", "++1"] {
+        let message = closed(&middle, &format!("{count}{wrong}"));
         require(comparison, &message, Record::at(9, segments));
+    }
+    for needless in ["+", ":", "+1:", "+1+"] {
+        let message = closed(&middle, &format!("{count}{needless}"));
+        require(comparison, &message, Record::at(4, message.len() - 1));
     }
 }
 
@@ -152,6 +156,14 @@ fn compare_lengths(comparison: &mut Comparison) {
     require(comparison, &longest, Record::at(4, LONGEST_MESSAGE));
     longest[LONGEST_MESSAGE - 1] = b'\n';
     require(comparison, &longest, Record::at(4, LONGEST_MESSAGE - 1));
+    for needless in [b":'", b"+'", b":+"] {
+        longest[LONGEST_MESSAGE - 2..].copy_from_slice(needless);
+        require(comparison, &longest, Record::at(4, LONGEST_MESSAGE - 1));
+    }
+    for cut in [b"?:", b"1:", b"1+"] {
+        longest[LONGEST_MESSAGE - 2..].copy_from_slice(cut);
+        require(comparison, &longest, Record::at(4, LONGEST_MESSAGE));
+    }
 }
 
 /// What comes out must also be what this message was made for.
