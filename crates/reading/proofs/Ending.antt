@@ -107,9 +107,15 @@ end-untold s bs at n e h = go (segmentEnd s bs at) refl
 
 -- how it moves the state that two flags stand for
 abbrev afterHeld : Bool → Bool → Kind → State
-afterHeld opened true k = afterParted k
-afterHeld true false k = afterOpened k
-afterHeld false false k = afterInside k
+afterHeld opened true = afterParted
+afterHeld true false = afterOpened
+afterHeld false false = afterInside
+
+-- what holds of the three holds of it
+each-held : (P : (Kind → State) → Type 0) → P afterOpened → P afterParted → P afterInside → (opened parted : Bool) → P (afterHeld opened parted)
+each-held P o p i opened true = p
+each-held P o p i true false = o
+each-held P o p i false false = i
 
 held-step : (s : Service) (opened parted : Bool) (b : ℕ) → stepped s (heldBy opened parted) b ≡ afterHeld opened parted (kindOf s b)
 held-step s opened true b = refl
@@ -130,23 +136,26 @@ text-by after x y true true more false false false false h = y
 
 text-held : (s : Service) (opened parted : Bool) (b : ℕ) → isText s b ≡ true → afterHeld opened parted (kindOf s b) ≡ heldBy false (eqb b (s .component))
 unfolding isText kindOf isData
-text-held s opened parted b h = go opened parted
+text-held s opened parted b h =
+    each-held (λ after. after (kindOf s b) ≡ heldBy false (eqb b (s .component))) (by afterOpened refl refl) (by afterParted refl refl) (by afterInside refl refl) opened parted
   where
     by : (after : Kind → State) → after Component ≡ Parted → after Plain ≡ Inside → after (kindOf s b) ≡ heldBy false (eqb b (s .component))
     by after x y =
         text-by after x y (leb 0x20 b) (leb b 0x7e) (leb 0xa0 b && leb b 0xff)
         (eqb b (s .release)) (eqb b (s .component)) (eqb b (s .element)) (eqb b (s .terminator)) h
 
-    go : (x y : Bool) → afterHeld x y (kindOf s b) ≡ heldBy false (eqb b (s .component))
-    go x true = by afterParted refl refl
-    go true false = by afterOpened refl refl
-    go false false = by afterInside refl refl
-
 -- a byte of a known kind
 held-component : (opened parted : Bool) → afterHeld opened parted Component ≡ heldBy false true
-held-component opened true = refl
-held-component true false = refl
-held-component false false = refl
+held-component = each-held (λ after. after Component ≡ Parted) refl refl refl
+
+held-release : (opened parted : Bool) → afterHeld opened parted Release ≡ Released
+held-release = each-held (λ after. after Release ≡ Released) refl refl refl
+
+held-plain : (opened parted : Bool) → afterHeld opened parted Plain ≡ heldBy false false
+held-plain = each-held (λ after. after Plain ≡ Inside) refl refl refl
+
+held-other : (opened parted : Bool) → afterHeld opened parted Other ≡ Dead
+held-other = each-held (λ after. after Other ≡ Dead) refl refl refl
 
 held-element : (opened parted : Bool) → afterHeld opened parted Element ≡ pick parted Dead Opened
 held-element opened true = refl
@@ -158,21 +167,6 @@ held-terminator true true = refl
 held-terminator false true = refl
 held-terminator true false = refl
 held-terminator false false = refl
-
-held-release : (opened parted : Bool) → afterHeld opened parted Release ≡ Released
-held-release opened true = refl
-held-release true false = refl
-held-release false false = refl
-
-held-plain : (opened parted : Bool) → afterHeld opened parted Plain ≡ heldBy false false
-held-plain opened true = refl
-held-plain true false = refl
-held-plain false false = refl
-
-held-other : (opened parted : Bool) → afterHeld opened parted Other ≡ Dead
-held-other opened true = refl
-held-other true false = refl
-held-other false false = refl
 
 released-by : (r c e t d : Bool)
     → afterReleased (pick r Release (pick c Component (pick e Element (pick t Terminator (pick d Plain Other))))) ≡ pick (r || (c || (e || t))) Inside Dead

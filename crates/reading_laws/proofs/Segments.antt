@@ -52,20 +52,19 @@ module _ (s : Service) (good : GoodService s) where
     parted : Open Parted
     inside : Open Inside
 
+  open-step : {p : State} → Open p → (b : ℕ) (k : Kind) (q : State) → kindOf s b ≡ k → afterOpened k ≡ q → afterParted k ≡ q → afterInside k ≡ q → stepped s p b ≡ q
+  open-step opened b k q e x y z = ap afterOpened e ∙ x
+  open-step parted b k q e x y z = ap afterParted e ∙ y
+  open-step inside b k q e x y z = ap afterInside e ∙ z
+
   open-plain : {p : State} → Open p → (b : ℕ) → kindOf s b ≡ Plain → stepped s p b ≡ Inside
-  open-plain opened b e = ap afterOpened e
-  open-plain parted b e = ap afterParted e
-  open-plain inside b e = ap afterInside e
+  open-plain o b e = open-step o b Plain Inside e refl refl refl
 
   open-release : {p : State} → Open p → stepped s p (s .release) ≡ Released
-  open-release opened = ap afterOpened (kind-release s good)
-  open-release parted = ap afterParted (kind-release s good)
-  open-release inside = ap afterInside (kind-release s good)
+  open-release o = open-step o (s .release) Release Released (kind-release s good) refl refl refl
 
   open-component : {p : State} → Open p → stepped s p (s .component) ≡ Parted
-  open-component opened = ap afterOpened (kind-component s good)
-  open-component parted = ap afterParted (kind-component s good)
-  open-component inside = ap afterInside (kind-component s good)
+  open-component o = open-step o (s .component) Component Parted (kind-component s good) refl refl refl
 
   behind-released : {p : State} → Open p → (b : ℕ) (rest : List ℕ) → afterReleased (kindOf s b) ≡ Inside → behind s p (s .release ∷ b ∷ rest) ≡ behind s Inside rest
   behind-released o b rest e = behind-step s _ Released (s .release) (b ∷ rest) (open-release o) ∙ behind-step s Released Inside b rest e
