@@ -1,10 +1,12 @@
 -- Worked examples, computed from the definitions: 01's starred messages of the reading, its faults with `?`, T-05's needless separators,
--- and a lookup.
+-- a lookup, and a message's values by their numbers.
 use Prim.Native.Nat.{ℕ}
 use mathlib.Core.Path.{_≡_, refl}
 use mathlib.Core.List.{List, [], _∷_}
-use Rattle.reading.specs.meaning.Service.{standard, isData, isTagByte}
+use Rattle.reading.specs.meaning.Service.{standard, isData, isTagByte, mustRelease}
+use Rattle.reading.specs.meaning.Message.{Component, Message, render, writeComponent, writeMore, writeElements, writeSegments}
 use Rattle.reading.specs.meaning.Component.{span}
+use Rattle.reading.specs.statements.OneText.{valueIn}
 use Rattle.reading.specs.method.Machine.{kindOf, scanOn, scanned, endOn, isHere, seekOn, componentSpan}
 use Rattle.reading.specs.declared.span.Span.{Span}
 use Rattle.reading.specs.method.Outcome.{Outcome, Segments, BadAt}
@@ -45,6 +47,21 @@ text = 65 ∷ 65 ∷ 65 ∷ 43 ∷ 66 ∷ 58 ∷ 63 ∷ 39 ∷ 67 ∷ 43 ∷ 43 
 lookups : List (ℕ × ℕ × Span)
 lookups = (1, 2, span 6 9) ∷ (2, 1, span 10 10) ∷ (3, 1, span 11 12) ∷ (3, 2, span 12 12) ∷ (0, 1, span 13 13) ∷ []
 
+-- the message that is written as this text, and its values: segment, element, component
+message : Message
+message =
+    record {
+      tag = record { first = 65; second = 65; third = 65 };
+      elements =
+          record { first = 66 ∷ []; more = (39 ∷ 67 ∷ []) ∷ [] } ∷ record { first = []; more = [] } ∷ record { first = 68 ∷ []; more = [] } ∷ [];
+    }
+    ∷ []
+
+values : List (ℕ × ℕ × ℕ × Component)
+values =
+    (1, 1, 1, 66 ∷ []) ∷ (1, 1, 2, 39 ∷ 67 ∷ []) ∷ (1, 2, 1, []) ∷ (1, 3, 1, 68 ∷ []) ∷ (1, 3, 2, []) ∷ (1, 4, 1, []) ∷ (1, 0, 1, []) ∷ (1, 1, 0, []) ∷ (0, 1, 1, [])
+    ∷ (2, 1, 1, []) ∷ []
+
 abbrev AllScanned : List (List ℕ × Outcome) → Type 0
 AllScanned [] = Unit {0}
 AllScanned (x ∷ xs) = (scanned standard (x .0) ≡ x .1) × AllScanned xs
@@ -53,6 +70,10 @@ abbrev AllFound : List (ℕ × ℕ × Span) → Type 0
 AllFound [] = Unit {0}
 AllFound (x ∷ xs) = (componentSpan standard text 0 (x .0) (x .1) ≡ x .2) × AllFound xs
 
+abbrev AllValued : List (ℕ × ℕ × ℕ × Component) → Type 0
+AllValued [] = Unit {0}
+AllValued (x ∷ xs) = (valueIn message (x .0) (x .1) (x .2) ≡ x .3) × AllValued xs
+
 messages-scanned : AllScanned messages
 unfolding messages scanOn kindOf isTagByte isData
 messages-scanned = (refl, (refl, (refl, (refl, (refl, (refl, (refl, (refl, (refl, (refl, (refl, (refl, tt))))))))))))
@@ -60,3 +81,11 @@ messages-scanned = (refl, (refl, (refl, (refl, (refl, (refl, (refl, (refl, (refl
 components-found : AllFound lookups
 unfolding lookups text endOn seekOn isHere kindOf isTagByte isData
 components-found = (refl, (refl, (refl, (refl, (refl, tt)))))
+
+message-written : render standard message ≡ text
+unfolding message text writeComponent writeMore writeElements writeSegments mustRelease
+message-written = refl
+
+values-told : AllValued values
+unfolding message values
+values-told = (refl, (refl, (refl, (refl, (refl, (refl, (refl, (refl, (refl, (refl, tt))))))))))

@@ -5,6 +5,8 @@ pub mod Accepting
 pub mod FirstBad
 pub mod Rendering
 pub mod OneReading
+pub mod OneText
+pub mod Trailing
 pub mod Cursors
 pub mod Starts
 pub mod Spans
