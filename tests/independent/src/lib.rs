@@ -4,6 +4,7 @@
 //!
 //! - [`bytes`]: service characters, data bytes, tag bytes
 //! - [`reading`]: the independent reading of a message
+//! - [`content`]: tags and values without their text, written again (T-11)
 //! - [`book`]: the independent check of a guide book, random good books, and
 //!   ways to break each rule
 //! - [`placing`]: the independent placing of segments, random messages for a
@@ -42,6 +43,7 @@ pub mod arguments;
 pub mod book;
 pub mod breaking;
 pub mod bytes;
+pub mod content;
 pub mod described;
 pub mod difference;
 pub mod enumeration;

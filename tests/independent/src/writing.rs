@@ -45,6 +45,18 @@ fn needed_count<T>(all: &[T], is_empty: impl Fn(&T) -> bool) -> usize {
     last.map_or(0, |index| index + 1)
 }
 
+/// A value's text: "A separator or `?` as data has `?` before it."
+pub fn written_value(value: &[u8]) -> Vec<u8> {
+    let mut text = Vec::with_capacity(value.len());
+    for &byte in value {
+        if SERVICE.must_be_released(byte) {
+            text.push(SERVICE.release);
+        }
+        text.push(byte);
+    }
+    text
+}
+
 /// Up to five elements of up to four components. Many are empty, before others
 /// that are not.
 pub fn any_elements(random: &mut Random) -> Elements {
@@ -58,22 +70,18 @@ pub fn any_elements(random: &mut Random) -> Elements {
 
 /// Any data, often none, now and then with something that looks like a tag.
 pub fn any_component(random: &mut Random) -> Vec<u8> {
-    let mut text = Vec::new();
+    let mut value = Vec::new();
     if random.chance(20) {
-        return text;
+        return value;
     }
     // Texts that look like segments lead lookups inside data to an answer.
     if random.chance(5) {
-        text.extend(b"UNT");
+        value.extend(b"UNT");
     }
     for _ in 0..random.below(9) {
-        let byte = data_byte(random);
-        if SERVICE.must_be_released(byte) {
-            text.push(SERVICE.release);
-        }
-        text.push(byte);
+        value.push(data_byte(random));
     }
-    text
+    written_value(&value)
 }
 
 fn data_byte(random: &mut Random) -> u8 {

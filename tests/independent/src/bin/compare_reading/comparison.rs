@@ -1,13 +1,15 @@
 //! One question at a time, put to the proved archives and to the independent
-//! reading. The first difference is printed and ends the program.
+//! reading, and texts written again. The first difference is printed and ends
+//! the program.
 
 use crate::counts::Counts;
 use crate::kinds::Kind;
 use independent::archives::{self, SUPPOSED_ENTRIES};
+use independent::content::Content;
 use independent::judging::plain::judge_message;
 use independent::judging::Record;
 use independent::reading::{find_in_segment, read_segment, read_segments, Part, Segment};
-use std::fmt::Debug;
+use std::fmt::{self, Debug, Formatter};
 use std::process::exit;
 
 /// Lookups are made with tables of every length up to this one.
@@ -130,6 +132,27 @@ impl Comparison {
         self.counts
             .add(Kind::of_lookup(text, at, segment, element, component));
     }
+
+    /// The text and what the writer makes of its segments' tags and values.
+    pub fn compare_written_again(&mut self, text: &[u8], contents: &[Content]) {
+        let mut written = Vec::with_capacity(text.len());
+        for content in contents {
+            content.write(&mut written);
+        }
+        if written != text {
+            let near = common_length(text, &written);
+            let [expected, came_out] = [text, &written].map(|bytes| Printed { bytes, near });
+            let question = "the text, written again from the archive's tags and values";
+            report(text, near, question, &expected, &came_out);
+        }
+        self.counts.add(Kind::of_written_again(contents));
+    }
+}
+
+/// How many bytes both have in common before the first difference.
+fn common_length(one: &[u8], other: &[u8]) -> usize {
+    let pairs = one.iter().zip(other);
+    pairs.take_while(|(one, other)| one == other).count()
 }
 
 type Table = [usize; MARGIN + LONGEST_TABLE + MARGIN];
@@ -148,25 +171,35 @@ fn table_with(part: Part, length: usize) -> Table {
 }
 
 /// Prints the first difference and ends the program.
-fn report(
+pub fn report(
     text: &[u8],
     near: usize,
     question: &str,
     expected: &impl Debug,
-    answered: &impl Debug,
+    came_out: &impl Debug,
 ) -> ! {
     println!("compare_reading: DIFFERENCE");
-    println!("  question:            {question}");
-    println!("  independent reading: {expected:?}");
-    println!("  proved archive:      {answered:?}");
-    let from = printed_from(text, near);
-    let to = text.len().min(from + LONGEST_PRINTED);
-    println!(
-        "  text of {} bytes, bytes {from} to {to}: b\"{}\"",
-        text.len(),
-        text[from..to].escape_ascii()
-    );
+    println!("  question: {question}");
+    println!("  expected: {expected:?}");
+    println!("  came out: {came_out:?}");
+    println!("  the text: {:?}", Printed { bytes: text, near });
     exit(1)
+}
+
+/// Bytes as they are printed, of long ones those around the place in question.
+struct Printed<'a> {
+    bytes: &'a [u8],
+    near: usize,
+}
+
+impl Debug for Printed<'_> {
+    fn fmt(&self, formatter: &mut Formatter) -> fmt::Result {
+        let length = self.bytes.len();
+        let from = printed_from(self.bytes, self.near);
+        let to = length.min(from + LONGEST_PRINTED);
+        let shown = self.bytes[from..to].escape_ascii();
+        write!(formatter, "{length} bytes, {from} to {to}: b\"{shown}\"")
+    }
 }
 
 fn printed_from(text: &[u8], near: usize) -> usize {

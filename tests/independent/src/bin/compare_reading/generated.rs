@@ -36,8 +36,7 @@ const NUMBERS: [usize; 16] = [
 
 pub fn compare_all(comparison: &mut Comparison, random: &mut Random) {
     for _ in 0..SHORT_TEXTS {
-        let segments = random.between(1, 8);
-        let text = message(random, |so_far| so_far.segments >= segments);
+        let text = short_message(random);
         compare_with_damage(comparison, random, text);
     }
     for _ in 0..LONG_TEXTS {
@@ -81,6 +80,12 @@ fn likely_offsets(random: &mut Random, message: &[u8]) -> Vec<usize> {
         offsets.push(random.below(length));
     }
     offsets
+}
+
+/// Of up to eight segments.
+pub fn short_message(random: &mut Random) -> Vec<u8> {
+    let segments = random.between(1, 8);
+    message(random, |so_far| so_far.segments >= segments)
 }
 
 struct SoFar {

@@ -1,7 +1,8 @@
 //! The kinds of cases: every outcome of a message alone, of a segment's end and
-//! of a lookup.
+//! of a lookup, and what there is in texts that are written again.
 
 use independent::bytes::Service;
+use independent::content::Content;
 use independent::described;
 use independent::judging::Record;
 use independent::machine::{state_after, State};
@@ -64,6 +65,13 @@ described! {
         PresentBeyond16Bits: "lookup: present, number over 65,535",
         AbsentElement: "lookup: no such element",
         AbsentComponent: "lookup: no such component",
+        AgainTagAlone: "again: a tag alone",
+        AgainPlain: "again: values without marks, none empty before others",
+        AgainWithMark: "again: a released mark",
+        AgainWithGap: "again: an empty value before others",
+        AgainWithBoth: "again: a released mark, an empty value before others",
+        AgainSeveral: "again: several segments",
+        AgainSeveralWithBoth: "again: several segments with both",
     }
 }
 
@@ -121,6 +129,22 @@ impl Kind {
             Some(found) => present(found, element.max(component)),
             None if element > segment.elements.len() => Kind::AbsentElement,
             None => Kind::AbsentComponent,
+        }
+    }
+
+    /// By what the segments of a text are written again from.
+    pub fn of_written_again(contents: &[Content]) -> Kind {
+        let is_several = contents.len() > 1;
+        let has_mark = contents.iter().any(Content::has_a_mark);
+        let has_gap = contents.iter().any(Content::has_a_gap);
+        match (is_several, has_mark, has_gap) {
+            (true, true, true) => Kind::AgainSeveralWithBoth,
+            (true, ..) => Kind::AgainSeveral,
+            (false, true, true) => Kind::AgainWithBoth,
+            (false, true, false) => Kind::AgainWithMark,
+            (false, false, true) => Kind::AgainWithGap,
+            _ if contents.iter().any(Content::has_a_value) => Kind::AgainPlain,
+            _ => Kind::AgainTagAlone,
         }
     }
 }

@@ -1,6 +1,7 @@
 //! Compares the proved archives with the independent reading: what the numbers
 //! 3 to 9 say of a message alone, where segments start, and where components
-//! lie. Stops at the first difference with exit status 1.
+//! lie; and texts with themselves, written again from what the archives tell of
+//! them. Stops at the first difference with exit status 1.
 //! `compare_reading [SEED]`
 
 mod comparison;
@@ -10,6 +11,7 @@ mod exhaustive;
 mod generated;
 mod harmless;
 mod kinds;
+mod rewritten;
 mod wide;
 
 use comparison::Comparison;
@@ -39,6 +41,9 @@ fn main() -> ExitCode {
         enveloped::compare_random_ones(comparison, random)
     });
     compare_family(&mut comparison, "wide envelopes", wide::compare_envelopes);
+    compare_family(&mut comparison, "texts written again", |comparison| {
+        rewritten::compare_all(comparison, random)
+    });
     conclude(&comparison)
 }
 
