@@ -1,14 +1,14 @@
--- Law one-reading-one-text (T-11). Tags and values determine a valid message: this is what T-05's two clauses are for (Trailing.antt shows
--- that without either they do not). A message and its text determine each other. Together: tags and values determine the text.
-use Prim.Native.Nat.{ℕ, zero, suc}
+-- Law one-reading-one-text (T-11). Tags and values determine a valid message: this is what T-05's two clauses are for (with one of them left
+-- out they do not, as Trailing.antt shows). A message and its text determine each other. So tags and values determine the text.
+use Prim.Native.Nat.{ℕ, suc}
 use mathlib.Core.Path.{_≡_, refl, sym, ap, _∙_}
 use mathlib.Core.List.{List, [], _∷_, nil≢cons, cons≢nil, head-eq-of-cons-eq, tail-eq-of-cons-eq}
 use mathlib.Core.Logic.{_↔_}
 use Rattle.reading.specs.meaning.Service.{All, GoodService, standard}
-use Rattle.reading.specs.meaning.Message.{Component, Element, Segment, Message, HasBytes, Last, EndsInBytes, ValidComponent, ValidElement, ValidSegment, ValidMessage, render}
+use Rattle.reading.specs.meaning.Message.{Component, Element, Message, HasBytes, Last, EndsInBytes, ValidComponent, ValidElement, ValidSegment, ValidMessage, render}
 use Rattle.reading.specs.meaning.WellFormed.{WellFormed}
-use Rattle.reading.specs.meaning.Component.{componentsOf, valueInComponents, valueInElements, valueAt}
-use Rattle.reading.specs.statements.OneText.{tagsOf, valueInSegments, valueIn, Alike, OneReadingOneText, ForEveryGoodSet}
+use Rattle.reading.specs.meaning.Component.{componentsOf, valueInComponents, valueInElements}
+use Rattle.reading.specs.statements.OneText.{tagsOf, valueInSegments, valueIn, Alike, OneReadingOneText, OneReadingOneTextForGoodSets}
 use Rattle.reading.specs.declared.service.Service.{Service}
 use Rattle.reading_laws.proofs.Services.{good-standard}
 use Rattle.reading_laws.proofs.OneReading.{one-reading}
@@ -89,7 +89,7 @@ same-segments (x ∷ m) (y ∷ n) v w t h =
     let rest : m ≡ n = same-segments m n (v .1) (w .1) (tail-eq-of-cons-eq t) (λ k. h (suc k)) in
     cc (first, rest)
 
--- the law: the values at all places, with the tags, determine which segments, elements and components are there, and each one's bytes
+-- the law: the values at all places, with the tags, determine which segments, elements and components are there, and each one's value
 pub alike-is-same : (m n : Message) → ValidMessage m → ValidMessage n → Alike m n ↔ (m ≡ n)
 alike-is-same m n v w = (
   λ a. same-segments m n (v .segments) (w .segments) (a .same-tags) (λ k. a .same-values (suc k)),
@@ -105,7 +105,7 @@ text-is-reading s good text other x y = (
 )
 
 -- the law: one reading, one text
-pub one-reading-one-text : ForEveryGoodSet
+pub one-reading-one-text : OneReadingOneTextForGoodSets
 one-reading-one-text s good =
     record {
       one-reading = one-reading s good;

@@ -1,5 +1,5 @@
--- Why T-05 had to stand before T-11: with its two clauses T-11's sentence is true, and without either there are two texts that have the same
--- tags and the same values at all places.
+-- Why T-05 had to stand before T-11: with its two clauses T-11's sentence is true, and with one of them left out there are two texts that have
+-- the same tags and the same values at all places.
 use Prim.Native.Nat.{ℕ, zero, suc, _<_}
 use native.Mathlib.Omega.{arith}
 use mathlib.Core.Path.{_≡_, refl, ap}
@@ -14,15 +14,15 @@ use Rattle.reading.specs.declared.service.Service.{Service}
 use Rattle.reading_laws.specs.laws.Trailing.{ElementBy, SegmentBy, WellFormedBy, OneTextBy}
 use Rattle.reading_laws.proofs.OneText.{one-reading-one-text}
 
--- T-05's clauses, and none
+-- T-05's clauses, and a clause that asks nothing
 abbrev MoreEnd : List Component → Type 0
 MoreEnd cs = Last HasBytes cs
 
 abbrev ElementsEnd : List Element → Type 0
 ElementsEnd xs = Last EndsInBytes xs
 
-abbrev Any : {A : Type 0} → List A → Type 0
-Any xs = Unit {0}
+abbrev Unasked : {A : Type 0} → List A → Type 0
+Unasked xs = Unit {0}
 
 -- ---- with both
 
@@ -41,7 +41,7 @@ well-formed s text w =
 pub with-both : (s : Service) → GoodService s → OneTextBy MoreEnd ElementsEnd s
 with-both s good text other x y = one-reading-one-text s good .one-text text other (well-formed s text x) (well-formed s other y)
 
--- ---- without one of them: two texts of UNS, one longer than the other, with the same values
+-- ---- with one of them left out: two texts of UNS, one longer than the other, with the same values
 
 abbrev element : Component → List Component → Element
 element v vs = record { first = v; more = vs }
@@ -101,11 +101,11 @@ empty-component zero (suc zero) = refl
 empty-component zero (suc (suc c)) = refl
 empty-component (suc e) c = refl
 
-pub without-last-component : OneTextBy Any ElementsEnd standard → ⊥
+pub without-component-clause : OneTextBy Unasked ElementsEnd standard → ⊥
 unfolding isData mustRelease writeComponent writeMore writeElements writeSegments
-without-last-component =
-    let valid-two : All (ElementBy Any) (two ∷ []) = (record { first = (refl, tt); more = tt; ended = tt }, tt) in
-    refuted Any ElementsEnd (85 ∷ 78 ∷ 83 ∷ 43 ∷ 49 ∷ 58 ∷ 43 ∷ 50 ∷ 39 ∷ []) (85 ∷ 78 ∷ 83 ∷ 43 ∷ 49 ∷ 43 ∷ 50 ∷ 39 ∷ []) (one-and-empty ∷ two ∷ []) (one ∷ two ∷ [])
+without-component-clause =
+    let valid-two : All (ElementBy Unasked) (two ∷ []) = (record { first = (refl, tt); more = tt; ended = tt }, tt) in
+    refuted Unasked ElementsEnd (85 ∷ 78 ∷ 83 ∷ 43 ∷ 49 ∷ 58 ∷ 43 ∷ 50 ∷ 39 ∷ []) (85 ∷ 78 ∷ 83 ∷ 43 ∷ 49 ∷ 43 ∷ 50 ∷ 39 ∷ []) (one-and-empty ∷ two ∷ []) (one ∷ two ∷ [])
     (record { valid = (record { first = (refl, tt); more = (tt, tt); ended = tt }, valid-two); ended = tt; same = refl })
     (record { valid = (record { first = (refl, tt); more = tt; ended = tt }, valid-two); ended = tt; same = refl }) empty-component (omega arith)
 
@@ -115,9 +115,9 @@ empty-element zero zero = refl
 empty-element zero (suc c) = refl
 empty-element (suc e) c = refl
 
-pub without-last-element : OneTextBy MoreEnd Any standard → ⊥
+pub without-element-clause : OneTextBy MoreEnd Unasked standard → ⊥
 unfolding writeComponent writeMore writeElements writeSegments
-without-last-element =
-    refuted MoreEnd Any (85 ∷ 78 ∷ 83 ∷ 43 ∷ 39 ∷ []) (85 ∷ 78 ∷ 83 ∷ 39 ∷ []) (element [] [] ∷ []) []
+without-element-clause =
+    refuted MoreEnd Unasked (85 ∷ 78 ∷ 83 ∷ 43 ∷ 39 ∷ []) (85 ∷ 78 ∷ 83 ∷ 39 ∷ []) (element [] [] ∷ []) []
     (record { valid = (record { first = tt; more = tt; ended = tt }, tt); ended = tt; same = refl }) (record { valid = tt; ended = tt; same = refl }) empty-element
     (omega arith)

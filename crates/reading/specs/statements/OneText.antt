@@ -9,7 +9,7 @@ use Rattle.reading.specs.meaning.WellFormed.{WellFormed}
 use Rattle.reading.specs.meaning.Component.{valueAt}
 use Rattle.reading.specs.declared.service.Service.{Service}
 
--- ---- what is compared
+-- ---- what is compared. A component of a `Message` is its value; that this is 01's value of the component's bytes is law value-written.
 
 abbrev pub tagsOf : Message → List Tag
 tagsOf [] = []
@@ -21,7 +21,7 @@ valueInSegments k e c [] = []
 valueInSegments zero e c (g ∷ gs) = valueAt g e c
 valueInSegments (suc k) e c (g ∷ gs) = valueInSegments k e c gs
 
--- 01: "segments count from 1", as elements and components do; "An absent component has the empty value."
+-- 01: "segments count from 1", as elements and components do; number 0 is no segment's. "An absent component has the empty value."
 abbrev pub valueIn : Message → ℕ → ℕ → ℕ → Component
 valueIn m zero e c = []
 valueIn m (suc k) e c = valueInSegments k e c m
@@ -31,14 +31,14 @@ pub record Alike (m n : Message) : Type 0 where
   pub same-tags : tagsOf m ≡ tagsOf n
   pub same-values : (segment element component : ℕ) → valueIn m segment element component ≡ valueIn n segment element component
 
--- ---- the statement
+-- ---- the statement. 02's messages are texts here, and a `Message` is what is read of one.
 
 pub record OneReadingOneText (s : Service) : Type 0 where
-  -- one reading: a text is the writing of one message at most, so that its tags and its values are well-defined
+  -- one reading: a text is the writing of one message at most, so that its tags and its values do not depend on how it is read
   pub one-reading : (text : List ℕ) (x y : WellFormed s text) → x .message ≡ y .message
   -- one text: 02's sentence
   pub one-text : (text other : List ℕ) (x : WellFormed s text) (y : WellFormed s other) → Alike (x .message) (y .message) → text ≡ other
 
 -- "under the same service characters": any good set of them
-abbrev pub ForEveryGoodSet : Type 0
-ForEveryGoodSet = (s : Service) → GoodService s → OneReadingOneText s
+abbrev pub OneReadingOneTextForGoodSets : Type 0
+OneReadingOneTextForGoodSets = (s : Service) → GoodService s → OneReadingOneText s
