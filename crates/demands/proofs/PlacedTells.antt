@@ -14,6 +14,7 @@ use Rattle.reading.specs.meaning.Message.{Component, Segment, Message, writeCom
 use Rattle.reading.specs.meaning.Component.{valueAt}
 use Rattle.reading.specs.meaning.WellFormed.{WellFormed}
 use Rattle.reading.specs.declared.service.Service.{Service}
+use Rattle.reading_laws.proofs.Lists.{all-map}
 use Rattle.reading_laws.proofs.Values.{part-is-value}
 use Rattle.reading_laws.proofs.OneReading.{IsWord, raw-is-value, word-written}
 use Rattle.guide.specs.meaning.Plan.{Plan, planIn}
@@ -144,8 +145,7 @@ module _ (s : Service) (service : GoodService s) (mark : GoodMark s) (bs book cs
       (o .0, ap (λ (y : Segment). valueAt y 1 2) (o .1) ∙ c .same)
 
   opens : (p : ℕ) (h : p < g .identifiers) (es : List Entry) → All (OpenLowest book good p h hs ps cs) es → All (OpensLowest cs n v) es
-  opens p h [] a = tt
-  opens p h (e ∷ es) a = (a .0 .1, opens p h es (a .1))
+  opens p h = all-map (OpenLowest book good p h hs ps cs) (OpensLowest cs n v) (λ e a. a .1)
 
   rows : (p : ℕ) → p < g .identifiers → (rowsVerdict n (scannedRow g p cs hs) ≡ v) ↔ RowsSay cs n (entriesOf g p hs ps) v
   rows p h =

@@ -13,6 +13,7 @@ use Rattle.reading.specs.meaning.Service.{All, GoodService, standard, isWordByt
 use Rattle.reading.specs.meaning.Message.{Component, released, writeComponent}
 use Rattle.reading.specs.meaning.Component.{valueFrom, keptOrReleased, valueOf}
 use Rattle.reading.specs.declared.service.Service.{Service}
+use Rattle.reading_laws.proofs.Lists.{all-map, all-append}
 use Rattle.reading_laws.proofs.Services.{digit-word}
 use Rattle.reading_laws.proofs.OneReading.{not-release, value-written}
 use Rattle.reading.proofs.Booleans.{both, left, right, same-test}
@@ -173,14 +174,6 @@ module _ (s : Service) where
   plain-value (b ∷ bs) h =
       ap (λ (t : Bool). keptOrReleased t b (valueFrom s false bs) (valueFrom s true bs)) (not-release s b (h .0)) ∙ ap (_∷_ b) (plain-value bs (h .1))
 
-all-both : (P : ℕ → Type 0) (xs ys : List ℕ) → All P xs → All P ys → All P (xs ++ ys)
-all-both P [] ys h k = k
-all-both P (x ∷ xs) ys h k = (h .0, all-both P xs ys (h .1) k)
-
-all-map : (P Q : ℕ → Type 0) → ((b : ℕ) → P b → Q b) → (xs : List ℕ) → All P xs → All Q xs
-all-map P Q f [] h = tt
-all-map P Q f (x ∷ xs) h = (f x (h .0), all-map P Q f xs (h .1))
-
 minus-word : isWordByte minus ≡ true
 unfolding isWordByte
 minus-word = refl
@@ -211,7 +204,7 @@ module _ (s : Service) (good : GoodService s) (mark : GoodMark s) where
   number-plain v i =
       subst (All (Plain s)) (sym (i .same))
       (sign-plain (i .negative) (i .whole ++ writeFraction s (i .fraction))
-      (all-both (Plain s) (i .whole) (writeFraction s (i .fraction)) (digits-plain (i .whole) (i .digits .all)) (fraction-plain (i .fraction) (i .more))))
+      (all-append (Plain s) (i .whole) (writeFraction s (i .fraction)) (digits-plain (i .whole) (i .digits .all)) (fraction-plain (i .fraction) (i .more))))
 
   -- where its bytes are a number they are its value, and where its value is a number it is its bytes
   raw-number : (v : Component) → isNumber s (writeComponent s v []) ≡ true → writeComponent s v [] ≡ v

@@ -15,6 +15,7 @@ use Rattle.reading.specs.meaning.WellFormed.{WellFormed, SegmentAt}
 use Rattle.reading.specs.meaning.Tag.{tagNumber, UNH, UNT}
 use Rattle.reading.specs.method.Tag.{tagAt}
 use Rattle.reading.specs.declared.service.Service.{Service}
+use Rattle.reading_laws.proofs.Lists.{all-map}
 use Rattle.reading_laws.proofs.Services.{digit-word}
 use Rattle.reading_laws.proofs.Cursors.{written-at}
 use Rattle.reading_laws.proofs.Values.{part-is-value, same-part}
@@ -82,8 +83,7 @@ misplaced-exactly n k g v = (to (eqb k 1) (eqb (tagNumber (g .tag)) (tagNumber U
 -- ---- numbers 8 and 9
 
 digits-words : (bs : List ℕ) → All (λ b. isDigit b ≡ true) bs → All IsWord bs
-digits-words [] a = tt
-digits-words (b ∷ bs) a = (digit-word b (a .0), digits-words bs (a .1))
+digits-words = all-map (λ b. isDigit b ≡ true) IsWord digit-word
 
 pub one-last : (m : Message) (x y : Segment) → IsLast m x → IsLast m y → x ≡ y
 one-last [] x y a b = absurd a

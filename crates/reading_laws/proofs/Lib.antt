@@ -1,4 +1,5 @@
 -- Laws of the reading: what the definitions of reading/specs/method mean in terms of reading/specs/meaning.
+pub mod Lists
 pub mod Services
 pub mod Segments
 pub mod Accepting

@@ -10,15 +10,12 @@ use Rattle.reading.specs.meaning.WellFormed.{WellFormed}
 use Rattle.reading.specs.meaning.Component.{componentsOf, valueInComponents, valueInElements}
 use Rattle.reading.specs.statements.OneText.{tagsOf, valueInSegments, valueIn, Alike, OneReadingOneText, OneReadingOneTextForGoodSets}
 use Rattle.reading.specs.declared.service.Service.{Service}
+use Rattle.reading_laws.proofs.Lists.{last-behind}
 use Rattle.reading_laws.proofs.Services.{good-standard}
 use Rattle.reading_laws.proofs.OneReading.{one-reading}
 
 -- ---- things in a row, by what is seen at each number: of each of them something or nothing, and behind the last nothing. If something is
 -- seen of the last, what is seen determines the row.
-
-last-behind : {A : Type 0} (P : A → Type 0) (x : A) (xs : List A) → Last P (x ∷ xs) → Last P xs
-last-behind P x [] h = tt
-last-behind P x (y ∷ ys) h = h
 
 module _ {A B : Type 0} (nothing : B) (of : A → B) (seen : ℕ → List A → B)
     (behind : (k : ℕ) → seen k [] ≡ nothing)

@@ -15,6 +15,7 @@ use Rattle.reading.specs.declared.bytes.Kind.the-variants.{Component, Element, 
 use Rattle.reading.specs.declared.machine.State.{State}
 use Rattle.reading.specs.declared.machine.State.the-variants.{Start, Second, Third, Tagged, Opened, Parted, Inside, Released, Dead}
 use Rattle.reading.proofs.States.{Course, ends, goes-on, fails, course}
+use Rattle.reading_laws.proofs.Lists.{last-of}
 use Rattle.reading_laws.proofs.Services.{Seen, see, component-data, element-data, release-data, terminator-data, kind-release, kind-component, kind-element, kind-terminator}
 use Rattle.reading_laws.proofs.Services.Seen.{component, element, terminator, release, plain, other}
 
@@ -257,11 +258,6 @@ module _ (s : Service) (good : GoodService s) where
   on-tagged rest b bs Other (other d t) f = absurd f
 
   -- ---- within an element: what a byte does, however the element has to end
-
-  -- in front of the last one, or of none
-  last-of : {A : Type 0} (P : A → Type 0) (x : A) (xs : List A) → P x → Last P xs → Last P (x ∷ xs)
-  last-of P x [] h k = h
-  last-of P x (y ∷ ys) h k = k
 
   module _ (Ended : message.Component → List message.Component → List message.Element → Type 0) where
     -- a component with bytes may be the last one

@@ -12,6 +12,7 @@ use Rattle.reading.specs.meaning.Component.{valueInElements}
 use Rattle.reading.specs.statements.OneText.{valueIn, Alike}
 use Rattle.reading.specs.declared.service.Service.{Service}
 use Rattle.reading_laws.specs.laws.Trailing.{ElementBy, SegmentBy, WellFormedBy, OneTextBy}
+use Rattle.reading_laws.proofs.Lists.{all-map}
 use Rattle.reading_laws.proofs.OneText.{one-reading-one-text}
 
 -- T-05's clauses, and a clause that asks nothing
@@ -27,12 +28,12 @@ Unasked xs = Unit {0}
 -- ---- with both
 
 valid-elements : (xs : List Element) → All (ElementBy MoreEnd) xs → All ValidElement xs
-valid-elements [] v = tt
-valid-elements (x ∷ xs) v = (record { first = v .0 .first; more = v .0 .more; ended = v .0 .ended }, valid-elements xs (v .1))
+valid-elements = all-map (ElementBy MoreEnd) ValidElement (λ x v. record { first = v .first; more = v .more; ended = v .ended })
 
 valid-segments : (m : Message) → All (SegmentBy MoreEnd ElementsEnd) m → All ValidSegment m
-valid-segments [] v = tt
-valid-segments (g ∷ m) v = (record { tag = v .0 .tag; elements = valid-elements (g .elements) (v .0 .elements); ended = v .0 .ended }, valid-segments m (v .1))
+valid-segments =
+    all-map (SegmentBy MoreEnd ElementsEnd) ValidSegment
+    (λ g v. record { tag = v .tag; elements = valid-elements (g .elements) (v .elements); ended = v .ended })
 
 abbrev well-formed : (s : Service) (text : List ℕ) → WellFormedBy MoreEnd ElementsEnd s text → WellFormed s text
 well-formed s text w =

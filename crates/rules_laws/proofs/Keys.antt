@@ -16,6 +16,7 @@ use Rattle.guide.specs.meaning.View.{rowOf}
 use Rattle.guide.specs.meaning.Plan.{planOf, opening, isTrigger}
 use Rattle.guide.specs.meaning.Tree.{owner}
 use Rattle.reading.specs.meaning.Service.{All}
+use Rattle.reading_laws.proofs.Lists.{all-append}
 use Rattle.placing_laws.proofs.Structured.{Structured, structured}
 use Rattle.rules.specs.meaning.Instances.{segmentsOf, instancesOf, shownBy, firstIn, firstOf, isPresent, placeIn}
 use Rattle.rules.specs.meaning.Entries.{Entry, entryFor, entriesIn, entriesFrom, entriesOf}
@@ -28,10 +29,6 @@ use Rattle.rules_laws.proofs.Lines.{apart}
 abbrev pub In : Entry → List Entry → Type 0
 In e [] = ⊥
 In e (d ∷ ds) = (e ≡ d) ⊎ In e ds
-
-pub all-append : (P : Entry → Type 0) (xs ys : List Entry) → All P xs → All P ys → All P (xs ++ ys)
-all-append P [] ys h k = k
-all-append P (x ∷ xs) ys h k = (h .0, all-append P xs ys (h .1) k)
 
 pub all-of : (P : Entry → Type 0) (e : Entry) (es : List Entry) → All P es → In e es → P e
 all-of P e [] h i = absurd i

@@ -23,7 +23,7 @@ use Rattle.rules.specs.meaning.Entries.{Entry, entriesIn, entriesFrom, entriesO
 use Rattle.rules_laws.specs.meaning.OnTree.{hasLine, KeepsRow, LinesKeep, InstancesKeep, RulesHold}
 use Rattle.rules_laws.proofs.Lines.{trigger-owner, trigger-group, of-owner, group-owner}
 use Rattle.rules_laws.proofs.InTree.{Inside, InTree, inside-runs, trigger-in, of-instances, each-instance, present-in}
-use Rattle.rules_laws.proofs.Keys.{all-append}
+use Rattle.reading_laws.proofs.Lists.{all-append}
 
 -- ---- the entries, line by line
 
