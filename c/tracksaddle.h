@@ -1,5 +1,5 @@
-/* Tracksaddle for C callers: judges one EDIFACT message against a guide book, and
- * answers questions about the message and about the book.
+/* Tracksaddle for C callers: judges one EDIFACT message against a guide book,
+ * answers questions about the message and about the book, and tallies verdicts.
  *
  * Every function here works on memory that the caller lends for the call. It
  * keeps nothing, allocates nothing and shares no state between calls, so calls
@@ -192,6 +192,46 @@ void tracksaddle_find_component(const uint8_t *message, size_t message_len,
  * The tables that it works with are on the stack: leave it 256 KB there.
  */
 uint32_t tracksaddle_check_book(const uint8_t *book, size_t book_len);
+
+/* A tally: how often each verdict number was given, for a day or whatever the
+ * caller counts. It is 64 bytes that the caller keeps: for each of the numbers 0
+ * to 15 a count of four bytes, little-endian, that of number i at byte 4i. Clear
+ * it before the first verdict; 64 zero bytes are a cleared tally.
+ *
+ *   uint8_t tally[TRACKSADDLE_TALLY];
+ *   tracksaddle_tally_clear(tally, TRACKSADDLE_TALLY);
+ *   ...
+ *   if (tracksaddle_tally_add(tally, TRACKSADDLE_TALLY, number) != 0) {
+ *       // not counted
+ *   }
+ *
+ * Since the last clearing each count is how often its number was answered 0, and
+ * the sum of all counts is how many verdicts were. A call changes no byte but
+ * those of the tally. Two calls over the same bytes must not run at the same time.
+ */
+#define TRACKSADDLE_TALLY 64
+
+/* Adds one to the count of a verdict's number, and to no other.
+ *
+ *   tally, tally_len  the tally
+ *   number            of the verdict, as tracksaddle_judge returns it
+ *
+ * Returns
+ *   0  added
+ *   1  tally_len is not 64
+ *   2  number is above 15
+ *   3  that count is full: it is 4,294,967,295, and stays so
+ * the first of them that is so. Only 0 changes a byte.
+ */
+uint32_t tracksaddle_tally_add(uint8_t *tally, size_t tally_len, uint32_t number);
+
+/* Makes every count 0.
+ *
+ * Returns
+ *   0  cleared
+ *   1  tally_len is not 64; no byte is changed
+ */
+uint32_t tracksaddle_tally_clear(uint8_t *tally, size_t tally_len);
 
 #ifdef __cplusplus
 }

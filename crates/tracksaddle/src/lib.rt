@@ -8,6 +8,7 @@ ghost use Rattle.book.specs.meaning.GoodBook.{Judged};
 ghost use Rattle.framing.specs.meaning.Record.{numbersOf};
 ghost use Rattle.judging.specs.method.Table.{judged, tablesAfter};
 ghost use Rattle.judging.specs.meaning.Tables.{tables, roomOf};
+ghost use Rattle.tally.specs.meaning.Tally.{answerToAdd, tallyAfterAdd, answerToClear, tallyAfterClear};
 use reading::lookup;
 use reading::service::Service;
 
@@ -58,4 +59,20 @@ pub extern "C" fn tracksaddle_check_book(book: &[u8]) -> u32
     ensures { λ r. ⌜ Judged (now (book .entry)) r ⌝ }
 {
     book::check_book(book)
+}
+
+// One more of a verdict's number in the lent tally: 0, or the first refusal, 1 to 3.
+#[no_mangle]
+pub extern "C" fn tracksaddle_tally_add(tally: &mut [u8], number: u32) -> u32
+    ensures { λ r. ⌜ (r ≡ answerToAdd (now (tally .entry)) number) × (now (tally .exit) ≡ tallyAfterAdd (now (tally .entry)) number) ⌝ }
+{
+    tally::add(tally, number)
+}
+
+// Every count is 0 again: 0, or refusal 1.
+#[no_mangle]
+pub extern "C" fn tracksaddle_tally_clear(tally: &mut [u8]) -> u32
+    ensures { λ r. ⌜ (r ≡ answerToClear (now (tally .entry))) × (now (tally .exit) ≡ tallyAfterClear (now (tally .entry))) ⌝ }
+{
+    tally::clear(tally)
 }

@@ -1,0 +1,2 @@
+-- What the two calls answer and leave, case by case.
+pub mod Cases
