@@ -30,6 +30,8 @@ mod declared {
             record: *mut u32,
             record_len: usize,
         ) -> u32;
+        pub fn tracksaddle_tally_add(tally: *mut u8, tally_len: usize, number: u32) -> u32;
+        pub fn tracksaddle_tally_clear(tally: *mut u8, tally_len: usize) -> u32;
         pub fn probe_message(message: *const u8, message_len: usize) -> u64;
         pub fn probe_next(message: *const u8, message_len: usize, at: usize) -> usize;
         pub fn probe_place(
@@ -114,6 +116,19 @@ pub fn judge(
             record.len(),
         )
     }
+}
+
+/// 0 if one was added to the number's count, otherwise the refusal 1 to 3, which
+/// changes nothing.
+pub fn tally_add(tally: &mut [u8], number: u32) -> u32 {
+    // SAFETY: as above; nothing but the one slice is lent.
+    unsafe { declared::tracksaddle_tally_add(tally.as_mut_ptr(), tally.len(), number) }
+}
+
+/// 0 if every count was made 0, otherwise the refusal 1, which changes nothing.
+pub fn tally_clear(tally: &mut [u8]) -> u32 {
+    // SAFETY: as above; nothing but the one slice is lent.
+    unsafe { declared::tracksaddle_tally_clear(tally.as_mut_ptr(), tally.len()) }
 }
 
 /// Each of the tables that [`judge_message`] supposes has so many entries.

@@ -11,6 +11,8 @@
 //!   book, and ways to break their order
 //! - [`judging`]: the independent judge, quick and once more by definitions,
 //!   random messages that fit a book, and ways to break them
+//! - [`tally`]: the independent tally, what must add up in it, and random calls
+//!   (T-06)
 //! - [`machine`]: the state machine over bytes, for number 4's place
 //! - [`archives`]: safe calls into the proved archives
 //! - [`enumeration`], [`envelope`], [`random`], [`writing`], [`breaking`]: where
@@ -32,6 +34,7 @@
 //! cargo run --release --bin compare_book ../../books/k.bin ../../books/second.bin [SEED]
 //! cargo run --release --bin compare_placing ../../books/k.bin ../../books/second.bin [SEED]
 //! cargo run --release --bin compare_judge ../../books/k.bin ../../books/second.bin [SEED]
+//! cargo run --release --bin compare_tally [SEED]
 //! cargo run --release --bin bench_reading
 //! cargo run --release --bin bench_placing
 //! cargo run --release --bin bench_judge
@@ -56,5 +59,6 @@ pub mod placing;
 pub mod planned;
 pub mod random;
 pub mod reading;
+pub mod tally;
 pub mod times;
 pub mod writing;
