@@ -206,8 +206,9 @@ uint32_t tracksaddle_check_book(const uint8_t *book, size_t book_len);
  *   }
  *
  * Since the last clearing each count is how often its number was answered 0, and
- * the sum of all counts is how many verdicts were. A call changes no byte but
- * those of the tally. Two calls over the same bytes must not run at the same time.
+ * the counts sum to the number of adds answered 0 (sum them in 64 bits). A call
+ * changes no byte but those of the tally. Two calls over the same bytes must not
+ * run at the same time.
  */
 #define TRACKSADDLE_TALLY 64
 

@@ -8,7 +8,7 @@ ghost use Rattle.tally.specs.meaning.Tally.{answerToAdd, tallyAfterAdd, 
 // How many counts there are: one for each number of a verdict.
 const COUNTS: u32 = 16;
 
-const TALLY_LENGTH: usize = 4 * COUNTS as usize;
+const TALLY_LENGTH: usize = counts::COUNT_BYTES * COUNTS as usize;
 // A count that takes no more.
 const FULL: u32 = 4_294_967_295;
 

@@ -2,7 +2,7 @@
 use Prim.Native.Nat.{ℕ, zero, suc, _+_, _*_, _/_, _%_, _≤_, _<_}
 use native.Mathlib.Nat.{div-div-eq-div-mul, mod-add-div, mod-eq-of-lt}
 use native.Mathlib.Omega.{arith}
-use mathlib.Core.Path.{_≡_, refl, sym, ap, _∙_}
+use mathlib.Core.Path.{_≡_, refl, sym, _∙_}
 use mathlib.Core.Logic.{_⊎_, inl, inr}
 use mathlib.Core.Bool.{Bool, true, false}
 use mathlib.Core.List.{List, [], _∷_, _++_}
@@ -78,25 +78,15 @@ module _ (bytes : List ℕ) (place w x y z : ℕ) where
 
 -- ---- a count in four bytes
 
--- the digits to the base 256, each with what is left above it
-weighed : (w x y z left more count : ℕ) → w + 256 * left ≡ count → x + 256 * more ≡ left → y + 256 * z ≡ more → w + 256 * x + 65536 * y + 16777216 * z ≡ count
-weighed w x y z left more count first second third = omega arith
-
-highest-small : (w x y z left more count : ℕ) → w + 256 * left ≡ count → x + 256 * more ≡ left → y + 256 * z ≡ more → count ≤ full → z < 256
-highest-small w x y z left more count first second third small = omega arith
-
 four-digits : (count : ℕ) → count ≤ full → count % 256 + 256 * (count / 256 % 256) + 65536 * (count / 65536 % 256) + 16777216 * (count / 16777216 % 256) ≡ count
 four-digits count small =
-    let left = count / 256 in
-    let more = left / 256 in
-    let third-place : count / 65536 ≡ more = sym (div-div-eq-div-mul count 256 256) in
-    let fourth-place : count / 16777216 ≡ more / 256 = sym (ap (λ (n : ℕ). n / 256) (div-div-eq-div-mul count 256 256) ∙ div-div-eq-div-mul count 65536 256) in
-    let first = mod-add-div count 256 in
-    let second = mod-add-div left 256 in
-    let third = mod-add-div more 256 in
-    let fourth : more / 256 % 256 ≡ more / 256 =
-    mod-eq-of-lt (highest-small (count % 256) (left % 256) (more % 256) (more / 256) left more count first second third small) in
-    rw (third-place, fourth-place, fourth) (weighed (count % 256) (left % 256) (more % 256) (more / 256) left more count first second third)
+    let third : count / 65536 ≡ count / 256 / 256 = sym (div-div-eq-div-mul count 256 256) in
+    let fourth : count / 16777216 ≡ count / 65536 / 256 = sym (div-div-eq-div-mul count 65536 256) in
+    let highest : count / 16777216 % 256 ≡ count / 16777216 = mod-eq-of-lt (omega (arith, small)) in
+    omega (arith, mod-add-div count 256, mod-add-div (count / 256) 256, mod-add-div (count / 65536) 256, third, fourth, highest)
+
+pub count-small : (bytes : List ℕ) → Bytes bytes → (number : ℕ) → countOf bytes number ≤ full
+count-small bytes b number = omega (arith, b (countPlace number), b (countPlace number + 1), b (countPlace number + 2), b (countPlace number + 3))
 
 module _ (bytes : List ℕ) (number count : ℕ) where
   pub length-with-count : length (withCount bytes number count) ≡ length bytes
@@ -125,6 +115,3 @@ module _ (bytes : List ℕ) (number count : ℕ) where
 pub count-before : (bytes rest : List ℕ) (number : ℕ) → countPlace number + 4 ≤ length bytes → countOf (bytes ++ rest) number ≡ countOf bytes number
 count-before bytes rest number inside =
     rw (List·getD-append bytes rest 0 (countPlace number) (omega arith), List·getD-append bytes rest 0 (countPlace number + 1) (omega arith), List·getD-append bytes rest 0 (countPlace number + 2) (omega arith), List·getD-append bytes rest 0 (countPlace number + 3) (omega arith))
-
-pub count-small : (bytes : List ℕ) → Bytes bytes → (number : ℕ) → countOf bytes number ≤ full
-count-small bytes b number = omega (arith, b (countPlace number), b (countPlace number + 1), b (countPlace number + 2), b (countPlace number + 3))

@@ -6,17 +6,10 @@ use mathlib.Core.List.{List, [], _∷_, _++_}
 use lib.ListN.{replicate, length-replicate}
 use borrow.Author.Tests.{eq-eqb}
 use Rattle.tally.specs.meaning.Tally.{counts, tallyLength, countOf, full, answerToAdd, tallyAfterAdd, answerToClear, tallyAfterClear}
-use Rattle.tally.specs.statements.AddsUp.{add, clear, Call, answered, after, dayOf, howOften}
+use Rattle.tally.specs.statements.AddsUp.{add, Call, adding, clearing, answered, after, dayOf, howOften}
 use Rattle.tally_laws.proofs.Counts.{Bytes}
 use Rattle.tally_laws.proofs.OneCall.{bytes-zeros, zeros-count}
 use Rattle.tally_laws.proofs.AddsUp.{adds-up}
-
--- a call over a whole tally
-abbrev adding : ℕ → Call
-adding number = record { asked = add number; lent = tallyLength }
-
-abbrev clearing : Call
-clearing = record { asked = clear; lent = tallyLength }
 
 abbrev zeros : List ℕ
 zeros = replicate tallyLength 0
@@ -39,6 +32,11 @@ pub refusals : (answerToAdd (replicate 63 255) 16 ≡ 1) × (answerToAdd (replic
     × (answerToAdd (replicate 64 255) 15 ≡ 3) × (answerToClear (replicate 65 255) ≡ 1) × (tallyAfterClear (replicate 65 255) ≡ replicate 65 255)
 unfolding answerToAdd answerToClear tallyAfterClear
 refusals = (refl, refl, refl, refl, refl, refl)
+
+-- full counts are cleared too
+pub cleared : (answerToClear (replicate 64 255) ≡ 0) × (tallyAfterClear (replicate 64 255) ≡ replicate 64 0)
+unfolding answerToClear tallyAfterClear
+cleared = (refl, refl)
 
 -- a day: 0, 15, a call of 63 bytes, a clearing; then 0 and 0, and 15
 pub a-day : after zeros (adding 15 ∷ adding 0 ∷ adding 0 ∷ clearing ∷ record { asked = add 0; lent = 63 } ∷ adding 15 ∷ adding 0 ∷ []) ≡ 2 ∷ replicate 59 0 ++ (1 ∷ 0 ∷ 0 ∷ 0 ∷ [])
@@ -64,7 +62,7 @@ counted-on number inside zero small = zeros-count tallyLength number
 counted-on number inside (suc n) small =
     let earlier = replicate n (adding number) in
     let before = counted-on number inside n (omega arith) in
-    let answer = adds-up zeros (bytes-zeros tallyLength) earlier .other-answers-zero number inside (omega (arith, length-replicate {A = ℕ} tallyLength 0)) (λ is-full. omega (arith, is-full, before, small)) in
+    let answer = adds-up zeros (bytes-zeros tallyLength) earlier .not-full-answers-zero (omega (arith, adds-up zeros (bytes-zeros tallyLength) earlier .as-long, length-replicate {A = ℕ} tallyLength 0)) number inside (λ is-full. omega (arith, is-full, before, small)) in
     omega (arith, before, one-more-often zeros (bytes-zeros tallyLength) earlier number inside answer)
 
 -- the old inspector said 8

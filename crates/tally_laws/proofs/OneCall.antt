@@ -1,11 +1,11 @@
--- What one call does to the counts of the memory that it is lent a part of: nothing, or one more of one number, or none of any.
+-- What one call does to the counts of the memory that it is lent a part of: it changes nothing, adds one to one of them, or zeroes all.
 use Prim.Native.Nat.{ℕ, zero, suc, _+_, _≤_, _<_}
 use native.Mathlib.Omega.{arith}
 use mathlib.Core.Path.{_≡_, refl, sym, ap, _∙_, subst}
 use mathlib.Core.Bool.{Bool, true, false}
 use mathlib.Core.List.{List, [], _∷_, _++_}
-use lib.ListN.{length, getD, take, drop, replicate, length-append, length-replicate, take-append-drop}
-use lib.Seq.{getD-drop, drop-append-seam}
+use lib.ListN.{length, getD, take, drop, replicate, length-replicate, take-append-drop}
+use lib.Seq.{getD-drop, drop-at, length-front}
 use lib.Dec.{eqb, leb}
 use borrow.Author.Tests.{eqb-true, eqb-false, leb-true, leb-false}
 use Rattle.tally.specs.meaning.Tally.{counts, tallyLength, countPlace, countOf, withCount, full, answerToAdd, tallyAfterAdd, answerToClear, tallyAfterClear}
@@ -80,7 +80,7 @@ bytes-append [] ys b c at = c at
 bytes-append (x ∷ xs) ys b c zero = b zero
 bytes-append (x ∷ xs) ys b c (suc at) = bytes-append xs ys (λ k. b (suc k)) c at
 
-pub zeros-at : (n at : ℕ) → _≡_ {A = ℕ} (getD (replicate n 0) at 0) 0
+zeros-at : (n at : ℕ) → _≡_ {A = ℕ} (getD (replicate n 0) at 0) 0
 zeros-at zero at = refl
 zeros-at (suc n) zero = refl
 zeros-at (suc n) (suc at) = zeros-at n at
@@ -97,7 +97,7 @@ zeros-count n number = rw (zeros-at n (countPlace number), zeros-at n (countPlac
 pub data Moved (memory : List ℕ) : Asked → List ℕ → Type 0 where
   one-more : (number : ℕ) (left : List ℕ) → number < counts → countOf left number ≡ countOf memory number + 1
       → ((other : ℕ) → other < counts → (other ≡ number → ⊥) → countOf left other ≡ countOf memory other) → Moved memory (add number) left
-  none : (left : List ℕ) → ((number : ℕ) → number < counts → countOf left number ≡ 0) → Moved memory clear left
+  zeroed : (left : List ℕ) → ((number : ℕ) → number < counts → countOf left number ≡ 0) → Moved memory clear left
 
 pub data Outcome (memory : List ℕ) (call : Call) : Type 0 where
   refused : (answered memory call ≡ 0 → ⊥) → afterCall memory call ≡ memory → Outcome memory call
@@ -116,7 +116,7 @@ module _ (memory : List ℕ) (b : Bytes memory) (lent : ℕ) where
   count-in-front tally right number inside = count-before tally rest number (omega (arith, right, inside))
 
   behind : (tally : List ℕ) → length tally ≡ tallyLength → drop tallyLength (tally ++ rest) ≡ rest
-  behind tally right = ap (λ (n : ℕ). drop n (tally ++ rest)) (sym right) ∙ drop-append-seam tally rest
+  behind tally right = drop-at tally rest tallyLength right
 
   pub count-in-memory : length part ≡ tallyLength → (number : ℕ) → number < counts → countOf memory number ≡ countOf part number
   count-in-memory right number inside = ap (λ (l : List ℕ). countOf l number) (sym (take-append-drop lent memory)) ∙ count-in-front part right number inside
@@ -125,8 +125,7 @@ module _ (memory : List ℕ) (b : Bytes memory) (lent : ℕ) where
   behind-memory right = ap (drop tallyLength) (sym (take-append-drop lent memory)) ∙ behind part right
 
   same-length : (tally : List ℕ) → length tally ≡ length part → length (tally ++ rest) ≡ length memory
-  same-length tally same =
-      length-append tally rest ∙ ap (λ (n : ℕ). n + length rest) same ∙ sym (length-append part rest) ∙ ap length (take-append-drop lent memory)
+  same-length tally same = length-front memory tally lent same
 
   unchanged : (asked : Asked) → (answerTo asked part ≡ 0 → ⊥) → leftBy asked part ≡ part → Outcome memory (record { asked = asked; lent = lent })
   unchanged asked refusal-of same = refused refusal-of (ap (λ (l : List ℕ). l ++ rest) same ∙ take-append-drop lent memory)
@@ -161,7 +160,7 @@ module _ (memory : List ℕ) (b : Bytes memory) (lent : ℕ) where
   outcome-of-clear (all-cleared answer right gives) =
       let tally : List ℕ = replicate tallyLength 0 in
       let long : length tally ≡ tallyLength = length-replicate {A = ℕ} tallyLength 0 in
-      replaced clear tally right long (bytes-zeros tallyLength) answer gives (none (tally ++ rest) (λ number h. count-in-front tally long number h ∙ zeros-count tallyLength number))
+      replaced clear tally right long (bytes-zeros tallyLength) answer gives (zeroed (tally ++ rest) (λ number h. count-in-front tally long number h ∙ zeros-count tallyLength number))
 
 pub outcome : (memory : List ℕ) → Bytes memory → (call : Call) → Outcome memory call
 outcome memory b call = of (call .asked)

@@ -1,7 +1,7 @@
 -- Sums over numbers: how often each of them stands in a list sums to the list's length.
 use Prim.Native.Nat.{ℕ, zero, suc, _+_, _<_}
 use native.Mathlib.Omega.{arith}
-use mathlib.Core.Path.{_≡_, refl}
+use mathlib.Core.Path.{_≡_, refl, _∙_}
 use mathlib.Core.Bool.{Bool, true, false, cond}
 use mathlib.Core.List.{List, [], _∷_}
 use lib.ListN.{length}
@@ -29,11 +29,11 @@ sum-both (suc n) f g = let rest = sum-both n f g in omega arith
 
 sum-nothing : (n : ℕ) (f : ℕ → ℕ) → ((k : ℕ) → k < n → f k ≡ 0) → sumOf n f ≡ 0
 unfolding sumOf
-sum-nothing zero f h = refl
-sum-nothing (suc n) f h =
-    let rest = sum-nothing n f (λ k b. h k (omega arith)) in
-    let last = h n (omega arith) in
-    omega arith
+sum-nothing n f h = sum-alike n f (λ k. 0) h ∙ none n
+  where
+    none : (n : ℕ) → sumOf n (λ k. 0) ≡ 0
+    none zero = refl
+    none (suc n) = let rest = none n in omega arith
 
 -- a number stands once among those from 0 on
 once : (n x : ℕ) → x < n → sumOf n (λ k. cond (eqb k x) 1 0) ≡ 1

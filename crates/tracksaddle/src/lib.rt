@@ -61,7 +61,7 @@ pub extern "C" fn tracksaddle_check_book(book: &[u8]) -> u32
     book::check_book(book)
 }
 
-// One more of a verdict's number in the lent tally: 0, or the first refusal, 1 to 3.
+// Adds one to the count of a verdict's number: answers 0, or the first refusal, 1 to 3.
 #[no_mangle]
 pub extern "C" fn tracksaddle_tally_add(tally: &mut [u8], number: u32) -> u32
     ensures { λ r. ⌜ (r ≡ answerToAdd (now (tally .entry)) number) × (now (tally .exit) ≡ tallyAfterAdd (now (tally .entry)) number) ⌝ }
@@ -69,7 +69,7 @@ pub extern "C" fn tracksaddle_tally_add(tally: &mut [u8], number: u32) -> u32
     tally::add(tally, number)
 }
 
-// Every count is 0 again: 0, or refusal 1.
+// Makes every count 0: answers 0, or refusal 1.
 #[no_mangle]
 pub extern "C" fn tracksaddle_tally_clear(tally: &mut [u8]) -> u32
     ensures { λ r. ⌜ (r ≡ answerToClear (now (tally .entry))) × (now (tally .exit) ≡ tallyAfterClear (now (tally .entry))) ⌝ }

@@ -11,12 +11,16 @@ use lib.Dec.{eqb, leb}
 abbrev pub counts : ℕ
 counts = 16
 
+-- "four-byte"
+abbrev pub countBytes : ℕ
+countBytes = 4
+
 abbrev pub tallyLength : ℕ
-tallyLength = 4 * counts
+tallyLength = countBytes * counts
 
 -- where the count of a number begins
 abbrev pub countPlace : ℕ → ℕ
-countPlace number = 4 * number
+countPlace number = countBytes * number
 
 -- the count of a number: four bytes, the lowest first
 abbrev pub countOf : List ℕ → ℕ → ℕ
