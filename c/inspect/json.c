@@ -3,6 +3,7 @@
 
 #include "describing.h"
 #include "excerpt.h"
+#include "facts.h"
 
 #include <string.h>
 
@@ -10,70 +11,14 @@ static const char *const record_names[RECORD_LENGTH] = {
     "number", "place", "line", "element", "component", "condition",
 };
 
-/* Text that is UTF-8 without control characters, as all of ours is. */
-static void add_string(struct text *text, const char *bytes, size_t length)
-{
-    append(text, "\"");
-    for (size_t i = 0; i < length; i++) {
-        if (bytes[i] == '"' || bytes[i] == '\\') {
-            append(text, "\\");
-        }
-        append_bytes(text, bytes + i, 1);
-    }
-    append(text, "\"");
-}
-
-static void add_key(struct text *text, const char *key)
-{
-    append(text, ",\"%s\":", key);
-}
-
-static void add_text(struct text *text, const char *key, const struct text *value)
-{
-    add_key(text, key);
-    add_string(text, value->bytes, value->length);
-}
-
-/* An empty string is a fact that is not there. */
-static void add_words(struct text *text, const char *key, const char *words)
-{
-    add_key(text, key);
-    if (words[0] == '\0') {
-        append(text, "null");
-    } else {
-        add_string(text, words, strlen(words));
-    }
-}
-
-static void add_null(struct text *text, const char *key)
-{
-    add_key(text, key);
-    append(text, "null");
-}
-
-static void add_number(struct text *text, const char *key, size_t number)
-{
-    add_key(text, key);
-    append(text, "%zu", number);
-}
-
 /* Without braces: other facts follow. */
 static void add_record(struct text *text, const struct record *record)
 {
     for (int i = 0; i < RECORD_LENGTH; i++) {
-        append(text, "%s\"%s\":%u", i == 0 ? "" : ",", record_names[i],
-               record->entries[i]);
+        add_number(text, record_names[i], record->entries[i]);
     }
     add_words(text, "status", status_words(record->entries[NUMBER]));
     add_words(text, "verdict", number_words(record->entries[NUMBER]));
-}
-
-static void add_file(struct text *text, const char *name)
-{
-    struct text shown = {NULL, 0, 0};
-    append_name(&shown, name, strlen(name));
-    add_text(text, "file", &shown);
-    free_text(&shown);
 }
 
 static void add_place(struct text *text, struct message message,
@@ -262,7 +207,7 @@ void report_json_error(struct output *output, const char *name, const char *erro
     struct text *text = &output->text;
     append(text, "{");
     for (int i = 0; i < RECORD_LENGTH; i++) {
-        append(text, "%s\"%s\":null", i == 0 ? "" : ",", record_names[i]);
+        add_null(text, record_names[i]);
     }
     add_words(text, "status", "unreadable");
     add_null(text, "verdict");

@@ -26,7 +26,7 @@ enum {
     UNKNOWN_IDENTIFIER = 13,
     ROW_BROKEN = 14,
     OPEN = 15,
-    VERDICTS = 16
+    VERDICTS /* how many there are */
 };
 
 /* What is known of a condition. */

@@ -8,6 +8,7 @@
 
 const char usage[] =
     "usage: inspect [OPTION]... FILE...\n"
+    "       inspect [--json] [--quiet] --show-tally FILE\n"
     "\n"
     "Judges each FILE, one EDIFACT message from UNH to UNT, against a guide book,\n"
     "and says what is wrong and where. - is standard input.\n"
@@ -18,24 +19,58 @@ const char usage[] =
     "  --condition N=V   what is known of the guide's condition N: true, false or\n"
     "                    unknown. Without it a condition is unknown\n"
     "  --tree            draw the message's tree with the guide's names\n"
+    "  --tally FILE      add each verdict to the tally in FILE, which is made if it\n"
+    "                    is not there. Several inspectors may add to one FILE\n"
+    "  --show-tally FILE show how often each number was added to the tally in FILE,\n"
+    "                    and judge nothing\n"
     "  --json            one line of JSON for each file\n"
     "  --quiet           no answers, only the exit status\n"
     "  --help            this\n"
     "\n"
-    "Exit status: 0 every message is accepted; 1 some message is refused; 3 none is\n"
-    "refused, but some verdict is open; 2 wrong usage, or something cannot be read.\n";
+    "Exit status: 0 every message is accepted, or the tally is shown; 1 some message\n"
+    "is refused; 3 none is refused, but some verdict is open; 2 wrong usage, or\n"
+    "something cannot be read, or not be added to the tally.\n";
 
-/* What follows NAME or NAME=; null if the word is another, or nothing follows. */
-static const char *value_after(const char *name, char **words, size_t count, size_t *at)
+/* An option with a value. */
+struct valued_option {
+    const char *name;
+    const char **file; /* where a file's name goes; null for --condition */
+    const char *once;  /* why a file is given once */
+};
+
+/* Whether the word is NAME or NAME=VALUE. */
+static bool is_option(const char *word, const char *name)
 {
     size_t length = strlen(name);
-    if (strncmp(words[*at], name, length) == 0 && words[*at][length] == '=') {
-        return words[*at] + length + 1;
+    return strncmp(word, name, length) == 0 &&
+           (word[length] == '\0' || word[length] == '=');
+}
+
+/* The option that the word is; without a name if it is none of these. */
+static struct valued_option find_valued(struct options *options, const char *word)
+{
+    const struct valued_option valued[] = {
+        {"--condition", NULL, NULL},
+        {"--book", &options->book, "messages are judged by one book"},
+        {"--tally", &options->tally, "verdicts are added to one tally"},
+        {"--show-tally", &options->shown_tally, "one tally is shown"},
+    };
+    for (size_t i = 0; i < sizeof valued / sizeof valued[0]; i++) {
+        if (is_option(word, valued[i].name)) {
+            return valued[i];
+        }
     }
-    if (strcmp(words[*at], name) == 0 && *at + 1 < count) {
-        return words[++*at];
+    return (struct valued_option){NULL, NULL, NULL};
+}
+
+/* What stands behind =, or else the next word; null if there is none. */
+static const char *find_value(char **words, size_t count, size_t *at)
+{
+    const char *equals = strchr(words[*at], '=');
+    if (equals != NULL) {
+        return equals + 1;
     }
-    return NULL;
+    return *at + 1 < count ? words[++*at] : NULL;
 }
 
 /* The number before =, 0 if there is none from 1 to 64. */
@@ -60,13 +95,13 @@ static bool read_value(const char *words, uint8_t *value)
 }
 
 /* What is given twice may be a slip: the last pair of eyes asks. */
-static bool read_book_name(struct options *options, const char *name)
+static bool read_file_name(const struct valued_option *option, const char *name)
 {
-    if (options->book != NULL) {
-        complain("--book is given twice: messages are judged by one book");
+    if (*option->file != NULL) {
+        complain("%s is given twice: %s", option->name, option->once);
         return false;
     }
-    options->book = name;
+    *option->file = name;
     return true;
 }
 
@@ -113,18 +148,43 @@ static bool read_option(struct options *options, bool *is_given, char **words,
     if (read_flag(options, word)) {
         return true;
     }
-    const char *book = value_after("--book", words, count, at);
-    if (book != NULL) {
-        return read_book_name(options, book);
+    struct valued_option option = find_valued(options, word);
+    if (option.name == NULL) {
+        complain("there is no option %s; see --help", word);
+        return false;
     }
-    const char *condition = value_after("--condition", words, count, at);
-    if (condition != NULL) {
-        return read_condition(options, is_given, condition);
+    const char *value = find_value(words, count, at);
+    if (value == NULL) {
+        complain("%s wants a value", word);
+        return false;
     }
-    bool wants_value = strcmp(word, "--book") == 0 || strcmp(word, "--condition") == 0;
-    complain(wants_value ? "%s wants a value" : "there is no option %s; see --help",
-             word);
-    return false;
+    return option.file == NULL ? read_condition(options, is_given, value)
+                               : read_file_name(&option, value);
+}
+
+static bool is_standard_input(const char *name)
+{
+    return name != NULL && strcmp(name, "-") == 0;
+}
+
+/* Whether anything is asked for that only a judged message has. */
+static bool wants_judging(const struct options *options)
+{
+    return options->file_count > 0 || options->tally != NULL || options->book != NULL ||
+           options->highest_condition > 0 || options->tree;
+}
+
+static bool fit_together(const struct options *options)
+{
+    if (is_standard_input(options->tally) || is_standard_input(options->shown_tally)) {
+        complain("a tally is a file, not standard input; one named - is ./-");
+        return false;
+    }
+    if (options->shown_tally != NULL && wants_judging(options)) {
+        complain("--show-tally judges nothing: it goes with --json and --quiet alone");
+        return false;
+    }
+    return true;
 }
 
 bool read_options(struct options *options, char **words, size_t count)
@@ -143,5 +203,5 @@ bool read_options(struct options *options, char **words, size_t count)
             return false;
         }
     }
-    return true;
+    return options->help || fit_together(options);
 }

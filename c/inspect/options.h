@@ -5,7 +5,9 @@
 #include "guide.h"
 
 struct options {
-    const char *book; /* null for the one inside */
+    const char *book;        /* null for the one inside */
+    const char *tally;       /* to which verdicts are added, or null */
+    const char *shown_tally; /* to be shown, and nothing is judged; or null */
     uint8_t conditions[MOST_CONDITIONS];
     unsigned highest_condition; /* of those given, 0 without any */
     bool json;

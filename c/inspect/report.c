@@ -6,7 +6,7 @@
 
 #include <string.h>
 
-static enum colour colour_of(uint32_t number)
+enum colour colour_of(uint32_t number)
 {
     return number == ACCEPTED ? GREEN : number == OPEN ? YELLOW : RED;
 }

@@ -7,4 +7,7 @@
 
 void report(struct output *output, const char *name, const struct judgement *judgement);
 
+/* The verdict's colour, wherever it is shown. */
+enum colour colour_of(uint32_t number);
+
 #endif

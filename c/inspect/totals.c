@@ -1,13 +1,19 @@
 /* How many files got which number. */
 #include "totals.h"
 
-#include <stdio.h>
+struct totals begin_totals(void)
+{
+    return (struct totals){.tally = begin_tally()};
+}
 
+/* The exit status does not hang on the counts: one of them may be full. */
 void count_verdict(struct totals *totals, uint32_t number)
 {
     totals->files++;
-    if (number < VERDICTS) {
-        totals->by_number[number]++;
+    totals->has_open = totals->has_open || number == OPEN;
+    totals->has_refused = totals->has_refused || (number != ACCEPTED && number != OPEN);
+    if (add_verdict(&totals->tally, number) != ADDED) {
+        totals->uncounted++;
     }
 }
 
@@ -17,11 +23,18 @@ void count_unreadable(struct totals *totals)
     totals->unreadable++;
 }
 
-static void add_total(struct text *text, size_t count, const char *number,
+void count_unadded(struct totals *totals)
+{
+    totals->unadded++;
+}
+
+static void add_total(struct text *text, size_t count, const char *label,
                       const char *words)
 {
     if (count > 0) {
-        append(text, "%9zu  %4s  %s\n", count, number, words);
+        append(text, "%9zu  ", count);
+        append_labelled(text, label, words);
+        append(text, "\n");
     }
 }
 
@@ -31,23 +44,23 @@ void report_totals(struct output *output, const struct totals *totals)
     append(text, "total: ");
     append_number(text, totals->files);
     append(text, " files\n");
-    for (unsigned number = 0; number < VERDICTS; number++) {
-        char shown[16];
-        snprintf(shown, sizeof shown, "(%u)", number);
-        add_total(text, totals->by_number[number], shown, number_words(number));
+    for (uint32_t number = 0; number < VERDICTS; number++) {
+        struct label label = label_of(number);
+        add_total(text, count_of(&totals->tally, number), label.words,
+                  number_words(number));
     }
     add_total(text, totals->unreadable, "", "cannot be read");
+    add_total(text, totals->uncounted, "", "not counted here: their count is full");
+    add_total(text, totals->unadded, "", "not added to the tally");
 }
 
 int exit_status(const struct totals *totals)
 {
-    size_t judged = totals->files - totals->unreadable;
-    size_t decided = totals->by_number[ACCEPTED] + totals->by_number[OPEN];
-    if (totals->unreadable > 0) {
+    if (totals->unreadable > 0 || totals->unadded > 0) {
         return EXIT_TROUBLE;
     }
-    if (decided < judged) {
+    if (totals->has_refused) {
         return EXIT_SOME_REFUSED;
     }
-    return totals->by_number[OPEN] > 0 ? EXIT_SOME_OPEN : EXIT_ALL_ACCEPTED;
+    return totals->has_open ? EXIT_SOME_OPEN : EXIT_ALL_ACCEPTED;
 }
