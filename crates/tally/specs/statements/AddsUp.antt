@@ -46,6 +46,7 @@ pub record Day : Type 0 where
   pub begun : ℕ → ℕ
   pub accepted : List ℕ
 
+-- the day behind a call that was answered 0
 abbrev pub dayAfter : Asked → Day → Day
 dayAfter (add number) day = record { begun = day .begun; accepted = number ∷ day .accepted }
 dayAfter clear day = record { begun = λ number. 0; accepted = [] }
