@@ -217,12 +217,11 @@ uint32_t tracksaddle_check_book(const uint8_t *book, size_t book_len);
  *   tally, tally_len  the tally
  *   number            of the verdict, as tracksaddle_judge returns it
  *
- * Returns
- *   0  added
+ * Returns 0 if it was added, and otherwise the first of these that is so:
  *   1  tally_len is not 64
  *   2  number is above 15
  *   3  that count is full: it is 4,294,967,295, and stays so
- * the first of them that is so. Only 0 changes a byte.
+ * Only 0 changes a byte.
  */
 uint32_t tracksaddle_tally_add(uint8_t *tally, size_t tally_len, uint32_t number);
 
