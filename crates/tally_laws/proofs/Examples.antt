@@ -65,6 +65,6 @@ counted-on number inside (suc n) small =
     let answer = adds-up zeros (bytes-zeros tallyLength) earlier .not-full-answers-zero (omega (arith, adds-up zeros (bytes-zeros tallyLength) earlier .as-long, length-replicate {A = ℕ} tallyLength 0)) number inside (λ is-full. omega (arith, is-full, before, small)) in
     omega (arith, before, one-more-often zeros (bytes-zeros tallyLength) earlier number inside answer)
 
--- the old inspector said 8
+-- in 16 bits, as the old inspector counted segments, it would be 8
 pub sixty-five-thousand : countOf (after zeros (replicate 65544 (adding 0))) 0 ≡ 65544
 sixty-five-thousand = counted-on 0 (omega arith) 65544 (omega arith)
