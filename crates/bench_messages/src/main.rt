@@ -1,6 +1,8 @@
 // 01's bench messages under small book K, each with its one condition false, true and unknown: the six numbers of every
 // verdict, number, place, line, element, component and condition. What comes out is compared with ../stdout, which was
 // worked out from 01. The longest message is run from C (c/test_judge.c).
+#![tactic(auto)]
+
 mod book_k;
 
 use framing::Verdict;

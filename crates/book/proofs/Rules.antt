@@ -1,7 +1,7 @@
 -- The laws of rules: to run one decides it; and a loop over `all` goes on, ends, or stops at a failure.
 use Prim.Native.Nat.{ℕ, zero, suc, ◌+◌, ◌-◌, ◌≤◌, ◌<◌}
 use native.Mathlib.Omega.{arith}
-use native.Mathlib.Numerals.{add_one}
+use native.Mathlib.Numerals.{add-one}
 use mathlib.Core.Path.{◌≡◌, refl, sym, ap, ap₂, ◌∙◌}
 use mathlib.Core.Logic.{inl, inr}
 use mathlib.Core.Bool.{Bool, true, false, true≢false, not, ◌&&◌, ◌||◌}
@@ -66,7 +66,7 @@ module _ (test : ℕ → Bool) where
       regrouped false b d e = refl
 
   pub all_more : (first count : ℕ) → all first (count + 1) test ≡ (all first count test && test (first + count))
-  all_more first count = ap (λ (n : ℕ). all first n test) (add_one count) ∙ all_suc first count
+  all_more first count = ap (λ (n : ℕ). all first n test) (add-one count) ∙ all_suc first count
 
 -- ---- every number of a range
 

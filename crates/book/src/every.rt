@@ -9,7 +9,7 @@ use crate::{codes, fields, identifiers, lines, rows, structure};
 use guide::layout;
 
 // Which rule is asked of each number; the last one speaks of a subject too.
-#[derive(Drop)]
+#[derive(Clone, Copy)]
 pub enum Each {
     Line,
     Code,

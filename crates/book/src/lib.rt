@@ -1,4 +1,6 @@
 // Guide books: whether one is good. 01, "The guide book". What stands in one, by name, is guide's business.
+#![tactic(auto)]
+
 mod check;
 mod codes;
 mod every;

@@ -2,7 +2,7 @@
 use Prim.Native.Nat.{ℕ, zero, suc, ◌+◌, ◌-◌, ◌≤◌, ◌<◌}
 use native.Mathlib.Omega.{arith}
 use native.Mathlib.Decide.{dec_lt}
-use native.Mathlib.Numerals.{add_one}
+use native.Mathlib.Numerals.{add-one}
 use mathlib.Core.Path.{◌≡◌, refl, sym}
 use mathlib.Core.List.{List}
 use mathlib.Core.Logic.{◌⊎◌, inl, inr, dite}
@@ -93,8 +93,8 @@ module _ (bs : List ℕ) (good : GoodBook bs) where
   around : (k d : ℕ) → suc k ≤ (guide_of bs).lines → d < (guide_of bs).depth (suc k) → At d (suc k)
   around zero d b h = let r = first_at_root in absurd (omega arith)
   around (suc k) d b h =
-      rw (sym (add_one (suc k)))
-      (step (suc k) d (omega arith) (omega arith) (rw (sym (add_one (suc k))) at h) (around k d (omega arith)))
+      rw (sym (add-one (suc k)))
+      (step (suc k) d (omega arith) (omega arith) (rw (sym (add-one (suc k))) at h) (around k d (omega arith)))
 
   -- ---- the parent
 

@@ -2,7 +2,7 @@
 use Prim.Native.Nat.{ℕ, zero, suc, ◌+◌, ◌*◌, ◌≤◌, ◌<◌}
 use native.Mathlib.Omega.{arith}
 use native.Mathlib.Decide.{dec_lt}
-use native.Mathlib.Numerals.{add_one}
+use native.Mathlib.Numerals.{add-one}
 use mathlib.Core.Path.{◌≡◌, refl}
 use mathlib.Core.List.Memᴰ
 use mathlib.Core.List.{List, [], ◌∷◌, map, Memᴰ}
@@ -100,7 +100,7 @@ module _ (g : Guide) where
   behind (suc count) first steps h x = go (Memᴰ.cases_cons x) (behind count (suc first) (λ f a b. steps f (omega arith) (omega arith)) h)
     where
       next : field_place g first < field_place g (suc first)
-      next = let s = rw (add_one first) at (steps first (omega arith) (omega arith)) in omega arith
+      next = let s = rw (add-one first) at (steps first (omega arith) (omega arith)) in omega arith
 
       go : (h ≡ field_of g (suc first)) ⊎ Memᴰ h (map (field_of g) (numbers_from (suc (suc first)) count))
           → (Memᴰ h (map (field_of g) (numbers_from (suc (suc first)) count)) → field_place g (suc first) < place_of h) → field_place g first < place_of h

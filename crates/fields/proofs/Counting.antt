@@ -2,7 +2,7 @@
 use Prim.Native.Nat.{ℕ, suc, ◌+◌, ◌≤◌, ◌<◌}
 use native.Mathlib.Omega.{arith}
 use native.Mathlib.Decide.{dec_lt}
-use native.Mathlib.Numerals.{add_one}
+use native.Mathlib.Numerals.{add-one}
 use mathlib.Core.Path.{◌≡◌, refl, sym, ap, ◌∙◌}
 use mathlib.Core.List.{List, [], ◌∷◌}
 use mathlib.Core.Bool.{Bool, true, false, cond, not, ◌&&◌, ◌||◌}
@@ -10,7 +10,7 @@ use mathlib.Core.Logic.{dite}
 use lib.Dec.{eqb}
 use lib.ListN.{length, get_or, drop, drop_of_length-le}
 use lib.Seq.{drop-cons}
-use borrow.Author.Tests.{eq-eqb, ne_eqb, not-true, not_false}
+use borrow.Author.Tests.{eq-eqb, ne_eqb, not-true, not-false}
 use Rattle.reading.specs.declared.service.Service.{Service}
 use Rattle.reading.specs.meaning.Digit.{is_digit}
 use Rattle.fields.specs.meaning.Number.{minus, figures}
@@ -33,7 +33,7 @@ module _ (bs : List ℕ) where
       sym (
       ap after_digits (drop-cons bs at 0 h)
       ∙ ap (λ (t : Bool). cond t (after_digits (drop (suc at) bs)) (get_or bs at 0 ∷ drop (suc at) bs)) e
-      ∙ ap (λ (n : ℕ). after_digits (drop n bs)) (sym (add_one at))
+      ∙ ap (λ (n : ℕ). after_digits (drop n bs)) (sym (add-one at))
       )
 
   pub digits_stop : (at : ℕ) → at < length bs → is_digit (get_or bs at 0) ≡ false → drop at bs ≡ after_digits (drop at bs)
@@ -89,7 +89,7 @@ module _ (s : Service) (bs : List ℕ) where
   ends_next : (at : ℕ) → at < length bs → ends_number s (drop at bs) ≡ (eqb (get_or bs at 0) s.decimal && are_digits (drop (at + 1) bs))
   unfolding ends_number
   ends_next at h =
-      ap (ends_number s) (drop-cons bs at 0 h) ∙ ap (λ (n : ℕ). eqb (get_or bs at 0) s.decimal && are_digits (drop n bs)) (sym (add_one at))
+      ap (ends_number s) (drop-cons bs at 0 h) ∙ ap (λ (n : ℕ). eqb (get_or bs at 0) s.decimal && are_digits (drop n bs)) (sym (add-one at))
 
   pub number_no_mark : (at : ℕ) → at < length bs → (get_or bs at 0 ≡ s.decimal → ⊥) → false ≡ ends_number s (drop at bs)
   number_no_mark at h n = sym (ends_next at h ∙ ap (λ (t : Bool). t && are_digits (drop (at + 1) bs)) (ne_eqb (get_or bs at 0) s.decimal n))
@@ -124,7 +124,7 @@ module _ (s : Service) (bs : List ℕ) where
   unfolding figures
   figure_next at h =
       ap (figures s) (drop-cons bs at 0 h)
-      ∙ ap (λ (n : ℕ). cond (eqb (get_or bs at 0) minus || eqb (get_or bs at 0) s.decimal) (figures s (drop n bs)) (suc (figures s (drop n bs)))) (sym (add_one at))
+      ∙ ap (λ (n : ℕ). cond (eqb (get_or bs at 0) minus || eqb (get_or bs at 0) s.decimal) (figures s (drop n bs)) (suc (figures s (drop n bs)))) (sym (add-one at))
 
   pub figuring_begin : Figuring 0 0
   figuring_begin = record { few = omega arith; within = omega arith; same = omega arith }
@@ -141,7 +141,7 @@ module _ (s : Service) (bs : List ℕ) where
 
     pub figure_passes : r ≡ false → Figuring count (at + 1)
     figure_passes k =
-        let n : figures s (drop at bs) ≡ figures s (drop (at + 1) bs) = by true (not_false _ (sym e ∙ k)) in
+        let n : figures s (drop at bs) ≡ figures s (drop (at + 1) bs) = by true (not-false _ (sym e ∙ k)) in
         let f = i.few in let g = i.same in
         record { few = omega arith; within = omega arith; same = omega arith }
 

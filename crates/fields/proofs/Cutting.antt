@@ -2,7 +2,7 @@
 use Prim.Native.Nat.{ℕ, suc, ◌+◌, ◌-◌, ◌≤◌, ◌<◌}
 use native.Mathlib.Omega.{arith}
 use native.Mathlib.Decide.{dec_lt}
-use native.Mathlib.Numerals.{add_one}
+use native.Mathlib.Numerals.{add-one}
 use mathlib.Core.Path.{◌≡◌, refl, sym, ap, ap₂, ◌∙◌}
 use mathlib.Core.List.{List, [], ◌∷◌, ◌++◌, append_assoc, append-nil}
 use mathlib.Core.Bool.{Bool, true, false, cond, not, true≢false, false≢true}
@@ -27,7 +27,7 @@ module _ (s : Service) (bs : List ℕ) where
   cut_released : (at : ℕ) → at < length bs → cut s true (drop at bs) ≡ add_byte (get_or bs at 0) (cut s false (drop (at + 1) bs))
   unfolding cut
   cut_released at h =
-      ap (cut s true) (drop-cons bs at 0 h) ∙ ap (λ (n : ℕ). add_byte (get_or bs at 0) (cut s false (drop n bs))) (sym (add_one at))
+      ap (cut s true) (drop-cons bs at 0 h) ∙ ap (λ (n : ℕ). add_byte (get_or bs at 0) (cut s false (drop n bs))) (sym (add-one at))
 
   cut_free : (at : ℕ) (kind : Kind) → at < length bs → kind ≡ kind_of s (get_or bs at 0)
       → cut s false (drop at bs) ≡ cut_by kind (get_or bs at 0) (λ r. cut s r (drop (at + 1) bs))
@@ -35,7 +35,7 @@ module _ (s : Service) (bs : List ℕ) where
   cut_free at kind h e =
       ap (cut s false) (drop-cons bs at 0 h)
       ∙ ap (λ (k : Kind). cut_by k (get_or bs at 0) (λ r. cut s r (drop (suc at) bs))) (sym e)
-      ∙ ap (λ (n : ℕ). cut_by kind (get_or bs at 0) (λ r. cut s r (drop n bs))) (sym (add_one at))
+      ∙ ap (λ (n : ℕ). cut_by kind (get_or bs at 0) (λ r. cut s r (drop n bs))) (sym (add-one at))
 
   cut_out : (at : ℕ) (r : Bool) → length bs ≤ at → cut s r (drop at bs) ≡ pieces [] [] []
   unfolding cut

@@ -1,7 +1,7 @@
 -- The steps of the pass over a message's segments: each says what one segment makes of the test of all that are left.
 use Prim.Native.Nat.{ℕ, ◌+◌, ◌≤◌, ◌<◌}
 use native.Mathlib.Omega.{arith}
-use native.Mathlib.Numerals.{add_one}
+use native.Mathlib.Numerals.{add-one}
 use mathlib.Core.Path.{◌≡◌, refl, sym, ap, ap₂, ◌∙◌, subst}
 use mathlib.Core.List.{List, [], ◌∷◌}
 use lib.ListN.{length, get_or, take, drop, drop_of_length-le, length-take}
@@ -18,7 +18,7 @@ use Rattle.fields.specs.declared.passes.FirstFault.TheVariants as first
 left_next : (n k : ℕ) (xs : List ℕ) → k < n → k < length xs → drop k (take n xs) ≡ get_or xs k 0 ∷ drop (k + 1) (take n xs)
 left_next n k xs h i =
     drop-cons (take n xs) k 0 (simp length-take (omega arith))
-    ∙ ap₂ (λ (x j : ℕ). x ∷ drop j (take n xs)) (get_or-take n xs k 0 h) (sym (add_one k))
+    ∙ ap₂ (λ (x j : ℕ). x ∷ drop j (take n xs)) (get_or-take n xs k 0 h) (sym (add-one k))
 
 left_none : (n k : ℕ) (xs : List ℕ) → length (take n xs) ≤ k → drop k (take n xs) ≡ []
 left_none n k xs h = drop_of_length-le (take n xs) h
@@ -68,12 +68,12 @@ module _ (s : Service) (g : Guide) (bs : List ℕ) where
         unfolding first_fault
         one_more_lem =
             ap₂ (λ (xs ys : List ℕ). first_fault s g bs k xs ys) (left_next n k starts h hs) (left_next n k homes h hh)
-            ∙ ap₂ (λ (x : Fault) (j : ℕ). then_first k (get_or homes k 0) x (first_fault s g bs j (drop (k + 1) (take n starts)) (drop (k + 1) (take n homes)))) (sym r.0) (sym (add_one k))
+            ∙ ap₂ (λ (x : Fault) (j : ℕ). then_first k (get_or homes k 0) x (first_fault s g bs j (drop (k + 1) (take n starts)) (drop (k + 1) (take n homes)))) (sym r.0) (sym (add-one k))
 
         pub testing-found : (e c : ℕ) → q ≡ At e c
             → (first.At (k + 1) (get_or homes k 0) e c ≡ first_fault s g bs 0 (take n starts) (take n homes)) × FirstInReach (length bs) (first.At (k + 1) (get_or homes k 0) e c)
         testing-found e c x = (
-          ap (λ (j : ℕ). first.At j (get_or homes k 0) e c) (add_one k)
+          ap (λ (j : ℕ). first.At j (get_or homes k 0) e c) (add-one k)
               ∙ sym (one_more_lem ∙ ap (λ (y : Fault). then_first k (get_or homes k 0) y (from (k + 1))) x) ∙ i.same,
           subst (InReach (length bs)) x r.1,
         )

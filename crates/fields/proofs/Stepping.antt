@@ -3,7 +3,7 @@
 use Prim.Native.Nat.{ℕ, suc, ◌+◌, ◌-◌, ◌≤◌, ◌<◌}
 use native.Mathlib.Omega.{arith}
 use native.Mathlib.Decide.{dec_lt}
-use native.Mathlib.Numerals.{add_one}
+use native.Mathlib.Numerals.{add-one}
 use mathlib.Core.Path.{◌≡◌, refl, sym, ap, ap₂, ◌∙◌, subst}
 use mathlib.Core.List.{List, [], ◌∷◌}
 use mathlib.Core.Bool.{Bool, true, false, cond, ◌&&◌, false≢true}
@@ -33,7 +33,7 @@ use Rattle.fields.proofs.Fitting.{bytes_none, bytes_some}
 pub fields_next : (f last : ℕ) → f < last → fields_from f last ≡ f ∷ fields_from (f + 1) last
 fields_next f last h =
     let z : last - f ≡ suc (last - (f + 1)) = omega arith in
-    ap (numbers_from f) z ∙ ap (λ (x : ℕ). f ∷ numbers_from x (last - (f + 1))) (sym (add_one f))
+    ap (numbers_from f) z ∙ ap (λ (x : ℕ). f ∷ numbers_from x (last - (f + 1))) (sym (add-one f))
 
 pub fields_none : (f last : ℕ) → last ≤ f → fields_from f last ≡ []
 fields_none f last h = let z : last - f ≡ 0 = omega arith in ap (numbers_from f) z
@@ -206,7 +206,7 @@ module _ (s : Service) (g : Guide) (bs : List ℕ) (from : ℕ) (some : Bool) (e
             few = few;
             counted = omega arith;
             same =
-                ap₂ (λ (x : ℕ) (l : List ℕ). test_components s g some e x (components_in (cut s false l)) (fields_from next last)) (add_one c) (sym one)
+                ap₂ (λ (x : ℕ) (l : List ℕ). test_components s g some e x (components_in (cut s false l)) (fields_from next last)) (add-one c) (sym one)
                 ∙ sym (kept_test true k) ∙ i.same;
             further = ap (λ (l : List ℕ). further_in (cut s false l)) (sym one) ∙ sym (kept-further true k) ∙ i.further;
           }
@@ -328,7 +328,7 @@ module _ (s : Service) (g : Guide) (bs : List ℕ) (at line : ℕ) (last : ℕ) 
       element-test =
           sym i.same
           ∙ ap (λ (t : Bool). test_elements s g (suc e) (cond t (elements_in (cut s false (drop 1 (drop end bs)))) []) (fields_from f last)) o
-          ∙ ap₂ (λ (n : ℕ) (l : List ℕ). test_elements s g n (elements_in (cut s false l)) (fields_from f last)) (sym (add_one e)) (drop-drop 1 end bs)
+          ∙ ap₂ (λ (n : ℕ) (l : List ℕ). test_elements s g n (elements_in (cut s false l)) (fields_from f last)) (sym (add-one e)) (drop-drop 1 end bs)
           ∙ ap (λ (x : List (List Raw)). test_elements s g (e + 1) x (fields_from f last)) (split (cut s false (drop (end + 1) bs)))
 
       -- by what the test of the element answers

@@ -10,14 +10,14 @@ use guide::layout;
 use reading::service::Service;
 
 // Some fields have been tested: this component is at fault, or that field is the next.
-#[derive(Drop)]
+#[derive(Clone, Copy)]
 pub enum Step {
     Fault(usize),
     Next(u32),
 }
 
 // An element has been tested: this component is at fault, or it ends at that offset and that field is the next.
-#[derive(Drop)]
+#[derive(Clone, Copy)]
 pub enum Closing {
     Fault(usize),
     Closed(usize, u32),

@@ -10,7 +10,7 @@ use guide::layout;
 use reading::service::Service;
 
 // 01, number 12: the smallest (element, component) at fault, or none.
-#[derive(Drop)]
+#[derive(Clone, Copy)]
 pub enum Fault {
     At(usize, usize),
     Clean,

@@ -8,7 +8,7 @@ use reading::bytes::Kind;
 use reading::service::Service;
 
 // A component that has been read: where it ends, and how many of its bytes are releases.
-#[derive(Drop)]
+#[derive(Clone, Copy)]
 pub struct Part {
     pub end: usize,
     pub releases: usize,

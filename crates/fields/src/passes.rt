@@ -8,7 +8,7 @@ use crate::fault::Fault;
 use reading::service::Service;
 
 // 01, number 12: the first place, counted from 1, its line, and the smallest (element, component) at fault there; or none.
-#[derive(Drop)]
+#[derive(Clone, Copy)]
 pub enum FirstFault {
     At(u32, u32, usize, usize),
     Clean,

@@ -7,14 +7,14 @@ use mathlib.Core.Bool.{Bool, true, false, cond, true≢false, false≢true, not,
 use mathlib.Core.Logic.{◌↔◌}
 use lib.Dec.{eqb, leb, eqb-suc-zero}
 use lib.ListN.{length}
-use borrow.Author.Tests.{eq-eqb, eqb-true, eqb-false, leb-true, le-leb, not_false}
+use borrow.Author.Tests.{eq-eqb, eqb-true, eqb-false, leb-true, le-leb, not-false}
 use Rattle.guide.specs.meaning.Words.{empty_presence, must_presence, number_form, with_element_presence}
 use Rattle.guide.specs.meaning.Guide.{Guide, guide_of}
 use Rattle.book.specs.meaning.GoodBook.{GoodBook, field_rule, range_rule}
 use Rattle.guide.specs.meaning.View.{numbers_from, code_value, field_of}
 use Rattle.book_laws.proofs.Clauses.{field_rule_lem}
 use Rattle.placing.specs.meaning.Fitting.{is_among}
-use Rattle.reading.proofs.Booleans.{both, left, right, neither, or_true}
+use Rattle.reading.proofs.Booleans.{both, left, right, neither, or-true}
 use Rattle.placing_laws.proofs.Codes.{any_code}
 use Rattle.reading.specs.meaning.Service.{GoodService, must_release}
 use Rattle.reading.specs.meaning.Message.{Component, released, write_component}
@@ -224,7 +224,7 @@ module _ (s : Service) (g : Guide) (v : Values) (f : ℕ) (right-test : (x : Com
       go : (o : Bool) → some ≡ o → ⊥
       go true o =
           true≢false (
-          sym (missing_by s g some f (eqb (g.presence f) must_presence) true refl (eq-eqb _ _ p) ∙ ap (λ (u : Bool). eqb (g.presence f) must_presence || u) o ∙ or_true (eqb (g.presence f) must_presence))
+          sym (missing_by s g some f (eqb (g.presence f) must_presence) true refl (eq-eqb _ _ p) ∙ ap (λ (u : Bool). eqb (g.presence f) must_presence || u) o ∙ or-true (eqb (g.presence f) must_presence))
           ∙ sym (broken_none s g some f) ∙ h
           )
       go false o = w (k.lacks o d)
@@ -235,7 +235,7 @@ module _ (s : Service) (g : Guide) (v : Values) (f : ℕ) (right-test : (x : Com
   complete some (b ∷ x) z k h (must_with p y d w) = raw_has s (b ∷ x) (raw_some s b x) (sym z ∙ y)
   complete some (b ∷ x) z k h (unfit y w) =
       let q = (neither (eqb (g.presence f) empty_presence) (not (fits s g f (raw_of s (b ∷ x)))) (sym (broken_some s g some f (raw_of s (b ∷ x)) (raw_some s b x)) ∙ h)).1 in
-      w (subst (Fits s (field_of g f)) (sym z) ((right-test (b ∷ x)).0 (not_false (fits s g f (raw_of s (b ∷ x))) q)))
+      w (subst (Fits s (field_of g f)) (sym z) ((right-test (b ∷ x)).0 (not-false (fits s g f (raw_of s (b ∷ x))) q)))
 
   pub tests : Tests s g v f
   tests = record { breaks = λ some k h. sound some (v e c) refl k h; keeps = λ some k h. complete some (v e c) refl k h }

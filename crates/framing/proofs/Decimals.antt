@@ -1,7 +1,7 @@
 -- The test of a decimal: the first byte, and the steps of its loop. What it says of a value is the law decimal of framing_laws.
 use Prim.Native.Nat.{ℕ, ◌+◌, ◌*◌, ◌-◌, ◌≤◌, ◌<◌}
 use native.Mathlib.Omega.{arith}
-use native.Mathlib.Numerals.{add_one}
+use native.Mathlib.Numerals.{add-one}
 use mathlib.Core.Path.{◌≡◌, refl, sym, ◌∙◌}
 use mathlib.Core.List.{List, [], ◌∷◌}
 use mathlib.Core.Bool.{Bool, true, false, true≢false, not, ◌&&◌}
@@ -49,7 +49,7 @@ module _ (n : ℕ) (v : List ℕ) where
 
     turn : at < length v → is_decimal_from n 0 v ≡ is_digit (get_or v at 0) && (leb next n && is_decimal_from n next (drop (at + 1) v))
     unfolding is_decimal_from
-    turn h = sym m.same ∙ rw (drop-cons v at 0 h, add_one)
+    turn h = sym m.same ∙ rw (drop-cons v at 0 h, add-one)
 
     pub making_no_digit : at < length v → false ≡ is_digit (get_or v at 0) → false ≡ is_decimal_from n 0 v
     making_no_digit h e = sym (turn h ∙ rw (sym e))

@@ -1,7 +1,7 @@
 -- The steps of the pass that counts a message's segments and looks for UNH and UNT.
 use Prim.Native.Nat.{ℕ, suc, ◌+◌, ◌-◌, ◌≤◌, ◌<◌}
 use native.Mathlib.Omega.{arith}
-use native.Mathlib.Numerals.{add_one}
+use native.Mathlib.Numerals.{add-one}
 use mathlib.Core.Path.{◌≡◌, refl, sym, ap, ap₂, ◌∙◌}
 use mathlib.Core.List.{List, ◌∷◌}
 use mathlib.Core.Bool.{Bool, true, false, cond, not, ◌||◌}
@@ -93,7 +93,7 @@ module _ (s : Service) (bs : List ℕ) where
             ∙ ap (λ (x : Bool). cond (not (eqb misplaced 0)) misplaced (cond x n 0)) (sym (not_last m n (tag_at bs last) (omega arith))) in
             let starts : starts_from s bs (m - n) at ≡ at ∷ starts_from s bs (m - (n + 1)) (end + 1) =
             starts_found s bs n m at (span at end) (record { at = end + 1 }) (omega arith) (sym (ap (found_by at) e)) in
-            ap (λ (k : ℕ). framed_by (misplaced_by w m k (tag_at bs at)) (frame_from bs m k at (starts_from s bs (m - (n + 1)) (end + 1)))) (add_one n)
+            ap (λ (k : ℕ). framed_by (misplaced_by w m k (tag_at bs at)) (frame_from bs m k at (starts_from s bs (m - (n + 1)) (end + 1)))) (add-one n)
             ∙ sym (one_more_lem w n (is_misplaced m (suc n) (tag_at bs at)) (frame_from bs m (suc n) at (starts_from s bs (m - (n + 1)) (end + 1))))
             ∙ ap₂ framed_by known (sym (ap (frame_from bs m n last) starts)) ∙ i.framed m (omega arith)
 

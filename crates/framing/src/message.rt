@@ -11,7 +11,7 @@ use reading::service::Service;
 use reading::{bytes, compare, lookup};
 
 // How many entries the three lent tables have.
-#[derive(Drop)]
+#[derive(Clone, Copy)]
 pub struct Room {
     pub starts: usize,
     pub homes: usize,

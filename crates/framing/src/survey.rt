@@ -11,14 +11,14 @@ use reading::tag::{UNH, UNT};
 use reading::{cursor, machine, tag};
 
 // The first segment that is a UNH or a UNT and should not be, or the other way round; or where the last segment starts.
-#[derive(Drop)]
+#[derive(Clone, Copy)]
 pub enum Frame {
     Misplaced(u32),
     Closes(usize),
 }
 
 // Number 4's place; or how many segments a well-formed message has, and number 7's.
-#[derive(Drop)]
+#[derive(Clone, Copy)]
 pub enum Survey {
     BadAt(usize),
     Segments(u32, Frame),

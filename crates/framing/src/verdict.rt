@@ -4,7 +4,7 @@ ghost use Rattle.slices.specs.meaning.Lent.{as_many_as_fit};
 ghost use Rattle.framing.specs.meaning.Record.{answer, numbers_of};
 
 // Where: a segment's number (an offset for number 4), the guide's line, and the element and component in the segment.
-#[derive(Drop)]
+#[derive(Clone, Copy)]
 pub struct Place {
     pub at: u32,
     pub line: u32,
@@ -13,7 +13,7 @@ pub struct Place {
 }
 
 // 01's six numbers. Entries that a number does not name are 0.
-#[derive(Drop)]
+#[derive(Clone, Copy)]
 pub struct Verdict {
     pub number: u32,
     pub place: Place,

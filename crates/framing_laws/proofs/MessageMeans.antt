@@ -32,7 +32,7 @@ use Rattle.framing.specs.declared.survey.Frame.{Frame}
 use Rattle.framing.specs.declared.survey.Frame.TheVariants as frame
 use Rattle.framing.specs.declared.verdict.Verdict.{Verdict}
 use Rattle.framing_laws.proofs.Decimals.{decimal}
-use Rattle.reading.proofs.Booleans.{or_true}
+use Rattle.reading.proofs.Booleans.{or-true}
 
 -- ---- tests and what they say
 
@@ -72,7 +72,7 @@ misplaced_exactly n k g v = (to (eqb k 1) (eqb (tag_number g.tag) (tag_number UN
 
     by_unt : (c d x : Bool) → eqb k n ≡ c → eqb (tag_number g.tag) (tag_number UNT) ≡ d → cond c (not d) d ≡ true
         → (x || cond (eqb k n) (not (eqb (tag_number g.tag) (tag_number UNT))) (eqb (tag_number g.tag) (tag_number UNT))) ≡ true
-    by_unt c d x p q e = ap (λ (y : Bool). x || y) (ap₂ (λ (i j : Bool). cond i (not j) j) p q ∙ e) ∙ or_true x
+    by_unt c d x p q e = ap (λ (y : Bool). x || y) (ap₂ (λ (i j : Bool). cond i (not j) j) p q ∙ e) ∙ or-true x
 
     from : Misplaced n k g → is_misplaced n k (tag_number g.tag) ≡ true
     from (no_unh e f) = rw (eq-eqb k 1 e, ne_eqb (tag_number g.tag) (tag_number UNH) (λ z. f (one_tag g.tag UNH v valid_unh z)))

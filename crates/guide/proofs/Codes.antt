@@ -1,7 +1,7 @@
 -- The steps of the functions that compare a part with codes.
 use Prim.Native.Nat.{ℕ, zero, suc, ◌+◌, ◌-◌, ◌≤◌, ◌<◌}
 use native.Mathlib.Omega.{arith}
-use native.Mathlib.Numerals.{add_one}
+use native.Mathlib.Numerals.{add-one}
 use mathlib.Core.Path.{◌≡◌, refl, sym, ap, ap₂, ◌∙◌}
 use mathlib.Core.List.{List}
 use mathlib.Core.Bool.{Bool, true, false, ◌&&◌, ◌||◌}
@@ -19,7 +19,7 @@ module _ (byte : ℕ → ℕ) (raw : List ℕ) where
   unfolding spells
   spell_next at h =
       ap (spells byte at) (drop-cons raw at 0 h)
-      ∙ ap (λ (n : ℕ). eqb (get_or raw at 0) (byte at) && spells byte n (drop n raw)) (sym (add_one at))
+      ∙ ap (λ (n : ℕ). eqb (get_or raw at 0) (byte at) && spells byte n (drop n raw)) (sym (add-one at))
 
   pub spell_end : (at : ℕ) → length raw ≤ at → spells byte at (drop at raw) ≡ true
   unfolding spells
@@ -47,7 +47,7 @@ module _ (b : Guide) where
   any_next c zero raw h = absurd (omega arith)
   any_next c (suc n) raw h =
       let z : suc n - 1 ≡ n = omega arith in
-      ap₂ (λ (x y : ℕ). is_code b c raw || is_any_code b x y raw) (sym (add_one c)) (sym z)
+      ap₂ (λ (x y : ℕ). is_code b c raw || is_any_code b x y raw) (sym (add-one c)) (sym z)
 
   pub any_end : (c n : ℕ) (raw : List ℕ) → n ≤ 0 → is_any_code b c n raw ≡ false
   unfolding is_any_code

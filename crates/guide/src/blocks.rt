@@ -5,7 +5,7 @@ ghost use Rattle.guide.specs.method.Sizes.{BlocksOf};
 use crate::{edition, layout, numbers};
 
 // Where each block but the first begins, and where the last one ends.
-#[derive(Drop)]
+#[derive(Clone, Copy)]
 pub struct Blocks {
     pub codes: usize,
     pub fields: usize,

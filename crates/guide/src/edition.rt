@@ -5,7 +5,7 @@ ghost use Rattle.guide.specs.method.Sizes.{SizesOf};
 
 use crate::head;
 
-#[derive(Drop)]
+#[derive(Clone, Copy)]
 pub struct Edition {
     // The book's first number.
     pub number: u32,

@@ -1,7 +1,7 @@
 -- Bytes that are passed at once: what they make of progress and table is what their bytes make of it one by one.
 use Prim.Native.Nat.{ℕ, suc, ◌+◌, ◌-◌, ◌≤◌, ◌<◌}
 use native.Mathlib.Omega.{arith}
-use native.Mathlib.Numerals.{add_one}
+use native.Mathlib.Numerals.{add-one}
 use mathlib.Core.Path.{◌≡◌, refl, sym, ap, ap₂, ◌∙◌}
 use mathlib.Core.List.{List, [], ◌∷◌, ◌++◌}
 use mathlib.Core.Bool.{Bool, true, false, true≢false, cond, ◌&&◌}
@@ -176,7 +176,7 @@ passes s p table at (b ∷ bs) q end h e =
 step_on : (s : Service) (p q : State) (at : ℕ) (bs : List ℕ) → at < length bs → q ≡ stepped s p (get_or bs at 0)
     → pass_on s p at (drop at bs) ≡ cond (stops q) (stop q at) (pass_on s q (at + 1) (drop (at + 1) bs))
 unfolding pass_on
-step_on s p q at bs h e = rw (drop-cons bs at 0 h, e, add_one at) refl
+step_on s p q at bs h e = rw (drop-cons bs at 0 h, e, add-one at) refl
 
 -- before the byte at `at` the machine is in state q, and will stop where it stops from the beginning
 abbrev pub Stopping : Service → State → ℕ → List ℕ → State → ℕ → Type 0

@@ -1,5 +1,7 @@
 // A message in pieces, cut anywhere: 02, T-09. Between calls the caller keeps eight numbers, and nothing else is kept; the byte's step is the
 // machine of crate reading. To be read in this order: progress, piece, answer, numbers.
+#![tactic(auto)]
+
 mod answer;
 mod numbers;
 mod piece;

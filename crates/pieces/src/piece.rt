@@ -13,7 +13,7 @@ use reading::service::Service;
 use reading::{bytes, machine, segment};
 
 // Where the machine stops, and in which state: at the byte that ends a segment, at the first bad byte, or at the piece's end.
-#[derive(Drop)]
+#[derive(Clone, Copy)]
 pub struct Stop {
     pub state: State,
     pub at: usize,

@@ -8,7 +8,7 @@ use framing::limits::LIMIT_SEGMENTS;
 use reading::machine;
 use reading::machine::State;
 
-#[derive(Drop)]
+#[derive(Clone, Copy)]
 pub struct Progress {
     // the message has ended
     pub ended: bool,

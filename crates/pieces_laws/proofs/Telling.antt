@@ -15,7 +15,7 @@ use Rattle.reading.specs.meaning.Service.{GoodService}
 use Rattle.reading.specs.meaning.Message.{Segment, Message, render}
 use Rattle.reading.specs.meaning.Starts.{starts_in, starts_of}
 use Rattle.reading.specs.declared.service.Service.{Service}
-use Rattle.reading.proofs.Booleans.{or_true}
+use Rattle.reading.proofs.Booleans.{or-true}
 use Rattle.reading_laws.proofs.Starts.{starts_long}
 use Rattle.framing.specs.meaning.Limits.{most_segments}
 use Rattle.pieces.specs.meaning.Starts.{lent_at, FoundEntry, IsLeft, StartsLeft}
@@ -153,7 +153,7 @@ module _ (s : Service) (good : GoodService s) (m : Message) (g : Segment) (lents
   lacking_kept h false x = found_all h x
 
   lacking_last : length m < most_segments → lent ≤ length m → (t : Bool) → Lacking s more longer (t || true)
-  lacking_last a h t = rw (or_true t) (length m, omega (arith, one_more_lem), a, last_not_found h)
+  lacking_last a h t = rw (or-true t) (length m, omega (arith, one_more_lem), a, last_not_found h)
 
   -- ---- both
 

@@ -1,7 +1,7 @@
 -- The steps of the loop that looks for a line's segment, and an entry of a table.
 use Prim.Native.Nat.{ℕ, zero, suc, ◌+◌, ◌-◌, ◌≤◌, ◌<◌}
 use native.Mathlib.Omega.{arith}
-use native.Mathlib.Numerals.{add_one}
+use native.Mathlib.Numerals.{add-one}
 use mathlib.Core.Path.{◌≡◌, refl, sym, ap, ◌∙◌}
 use mathlib.Core.List.{List, [], ◌∷◌}
 use mathlib.Core.Bool.{Bool, cond}
@@ -49,8 +49,8 @@ module _ (l n : ℕ) (hs : List ℕ) where
     unfolding place_from
     turn h m =
         let less : n - k ≡ suc (n - (k + 1)) = omega arith in
-        ap (λ (j : ℕ). cond (eqb (get_or hs k 0) l) j (place_from l j (take (n - (k + 1)) (drop (k + 1) hs)))) (add_one k)
-        ∙ ap (λ (ys : List ℕ). cond (eqb (get_or hs k 0) l) (suc k) (place_from l (suc k) (take (n - (k + 1)) ys))) (ap (λ (j : ℕ). drop j hs) (add_one k))
+        ap (λ (j : ℕ). cond (eqb (get_or hs k 0) l) j (place_from l j (take (n - (k + 1)) (drop (k + 1) hs)))) (add-one k)
+        ∙ ap (λ (ys : List ℕ). cond (eqb (get_or hs k 0) l) (suc k) (place_from l (suc k) (take (n - (k + 1)) ys))) (ap (λ (j : ℕ). drop j hs) (add-one k))
         ∙ sym (ap (λ (j : ℕ). place_from l k (take j (drop k hs))) less ∙ ap (λ (ys : List ℕ). place_from l k (take (suc (n - (k + 1))) ys)) (drop-cons hs k 0 m)) ∙ i
 
     pub looking_found : k < n → k < length hs → get_or hs k 0 ≡ l → k + 1 ≡ place_from l 0 (take n hs)

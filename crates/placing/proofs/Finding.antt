@@ -2,7 +2,7 @@
 use Prim.Native.Nat.{ℕ, zero, suc, ◌+◌, ◌-◌, ◌≤◌, ◌<◌, ◌^◌}
 use native.Mathlib.Omega.{arith}
 use native.Mathlib.Decide.{dec_lt}
-use native.Mathlib.Numerals.{add_one}
+use native.Mathlib.Numerals.{add-one}
 use mathlib.Core.Path.{◌≡◌, refl, sym, ap, ap₂, ◌∙◌, subst}
 use mathlib.Core.List.{List}
 use mathlib.Core.Bool.{Bool, true, false, cond, not, ◌&&◌, and-false}
@@ -82,7 +82,7 @@ module _ (test : ℕ → Bool) (end : ℕ) where
   least_next : (x : ℕ) → x < end → least test x (end - x) ≡ cond (test x) x (least test (x + 1) (end - (x + 1)))
   unfolding least
   least_next x h =
-      ap (least test x) (one_less x end h) ∙ ap (λ (y : ℕ). cond (test x) x (least test y (end - (x + 1)))) (sym (add_one x))
+      ap (least test x) (one_less x end h) ∙ ap (λ (y : ℕ). cond (test x) x (least test y (end - (x + 1)))) (sym (add-one x))
 
   pub least_none : (x : ℕ) → end ≤ x → least test x (end - x) ≡ 0
   unfolding least
@@ -141,7 +141,7 @@ tabled_on tag tags l x h e all k i =
 
 module _ (b : Guide) where
   pub end_of_lines : (n : ℕ) → n ≡ b.lines → n < 257 → n + 1 ≡ tabled_end b
-  end_of_lines n e h = add_one n ∙ ap suc e ∙ sym (simp (lt-ltb b.lines 257 (omega arith)))
+  end_of_lines n e h = add-one n ∙ ap suc e ∙ sym (simp (lt-ltb b.lines 257 (omega arith)))
 
   pub end_of_table : (n : ℕ) → n ≡ b.lines → 257 ≤ n → 257 ≡ tabled_end b
   end_of_table n e h = sym (simp (le-ltb b.lines 257 (omega arith)))

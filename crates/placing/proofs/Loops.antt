@@ -1,7 +1,7 @@
 -- The steps of the loops over lines.
 use Prim.Native.Nat.{ℕ, ◌+◌, ◌-◌, ◌≤◌, ◌<◌}
 use native.Mathlib.Omega.{arith}
-use native.Mathlib.Numerals.{add_one}
+use native.Mathlib.Numerals.{add-one}
 use mathlib.Core.Path.{◌≡◌, sym, ap, ◌∙◌}
 use mathlib.Core.Bool.{Bool, true, false, cond, not, ◌&&◌}
 use lib.Dec.{ltb}
@@ -21,7 +21,7 @@ module _ (b : Plan) (d end : ℕ) where
   unfolding is_clear
   clear_next x h =
       ap (is_clear b d x) (one_less x end h)
-      ∙ ap (λ (y : ℕ). cond (ltb (b.depth x) d) true (not (is_wanted b d x) && is_clear b d y (end - (x + 1)))) (sym (add_one x))
+      ∙ ap (λ (y : ℕ). cond (ltb (b.depth x) d) true (not (is_wanted b d x) && is_clear b d y (end - (x + 1)))) (sym (add-one x))
 
   pub clear_end : (x : ℕ) → end ≤ x → is_clear b d x (end - x) ≡ true
   unfolding is_clear
@@ -40,7 +40,7 @@ module _ (b : Plan) (d end : ℕ) where
   unfolding is_passed
   passed_next x h =
       ap (is_passed b d x) (one_less x end h)
-      ∙ ap (λ (y : ℕ). not (ltb (b.depth x) d) && (not (is_wanted b d x) && is_passed b d y (end - (x + 1)))) (sym (add_one x))
+      ∙ ap (λ (y : ℕ). not (ltb (b.depth x) d) && (not (is_wanted b d x) && is_passed b d y (end - (x + 1)))) (sym (add-one x))
 
   pub passed_end : (x : ℕ) → end ≤ x → is_passed b d x (end - x) ≡ true
   unfolding is_passed

@@ -1,7 +1,7 @@
 -- The steps of the two passes over a message.
 use Prim.Native.Nat.{ℕ, ◌+◌, ◌-◌, ◌≤◌, ◌<◌}
 use native.Mathlib.Omega.{arith}
-use native.Mathlib.Numerals.{add_one}
+use native.Mathlib.Numerals.{add-one}
 use mathlib.Core.Path.{◌≡◌, refl, sym, ap, ap₂, ◌∙◌}
 use mathlib.Core.List.{List, [], ◌∷◌, ◌++◌, map}
 use mathlib.Core.Bool.{Bool, cond}
@@ -47,7 +47,7 @@ module _ (s : Service) (bs book : List ℕ) where
       ≡ cond (eqb h 0) (NoHome (k + 1)) (tested_from (plan_in book) (seen ++ (h ∷ [])) (first_stop stop (alive (seen ++ (h ∷ []))) (k + 1)) (k + 1) hs)
   unfolding tested_from
   tested_next seen stop k h hs =
-      ap (λ (n : ℕ). cond (eqb h 0) (NoHome n) (tested_from (plan_in book) (seen ++ (h ∷ [])) (first_stop stop (alive (seen ++ (h ∷ []))) n) n hs)) (sym (add_one k))
+      ap (λ (n : ℕ). cond (eqb h 0) (NoHome n) (tested_from (plan_in book) (seen ++ (h ∷ [])) (first_stop stop (alive (seen ++ (h ∷ []))) n) n hs)) (sym (add-one k))
 
   tested_nil : (seen : List ℕ) (stop k : ℕ) → tested_from (plan_in book) seen stop k [] ≡ outcome_of stop
   unfolding tested_from
@@ -127,11 +127,11 @@ module _ (s : Service) (bs book : List ℕ) where
 
   -- one entry more
   put_next : (table xs : List ℕ) (k x : ℕ) → sets (set table k x) (k + 1) xs ≡ sets table k (x ∷ xs)
-  put_next table xs k x = ap (λ (n : ℕ). sets (set table k x) n xs) (add_one k)
+  put_next table xs k x = ap (λ (n : ℕ). sets (set table k x) n xs) (add-one k)
 
   noted_next : (k h : ℕ) (trail hs : List ℕ) → noted (plan_in book) k trail (h ∷ hs) ≡ parent_in (plan_in book) trail h ∷ noted (plan_in book) (k + 1) (opened_by (plan_in book) trail h (k + 1)) hs
   unfolding noted
-  noted_next k h trail hs = ap (λ (n : ℕ). parent_in (plan_in book) trail h ∷ noted (plan_in book) n (opened_by (plan_in book) trail h n) hs) (sym (add_one k))
+  noted_next k h trail hs = ap (λ (n : ℕ). parent_in (plan_in book) trail h ∷ noted (plan_in book) n (opened_by (plan_in book) trail h n) hs) (sym (add-one k))
 
   module _ (n : ℕ) (starts₀ homes₀ parents₀ starts homes parents : List ℕ) (at : ℕ) (trail : List ℕ) (k last : ℕ) (w : Writing n starts₀ homes₀ parents₀ starts homes parents at trail k last) where
     pub write_on : (x : Span) (next : Cursor) (i h p : ℕ) (starts₁ homes₁ parents₁ opened : List ℕ) → k < last → found.Segment x next ≡ next_segment s bs at

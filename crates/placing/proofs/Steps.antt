@@ -1,7 +1,7 @@
 -- The steps of the functions over a walk, one law for each way through.
 use Prim.Native.Nat.{ℕ, zero, suc, ◌+◌, ◌-◌, ◌≤◌, ◌<◌, pred}
 use native.Mathlib.Omega.{arith}
-use native.Mathlib.Numerals.{add_one}
+use native.Mathlib.Numerals.{add-one}
 use mathlib.Core.Path.{◌≡◌, refl, sym, ap, ap₂, ◌∙◌, subst}
 use mathlib.Core.List.{List, [], ◌∷◌, ◌++◌, append-nil}
 use mathlib.Core.Bool.{Bool, true, false, cond, not, ◌&&◌, and-false}
@@ -24,7 +24,7 @@ stack_at : (w : Walk) (j : ℕ) (z : Level) → j < w.height → get_or (open_li
 stack_at w j z i = get_or-take w.height w.levels j z i
 
 pub raise_same : (v : Level) (t : ℕ) → v.line ≡ t → level t (v.count + 1) ≡ raised v t
-raise_same v t e = ap (level t) (add_one v.count) ∙ sym (simp (eq-eqb v.line t e))
+raise_same v t e = ap (level t) (add-one v.count) ∙ sym (simp (eq-eqb v.line t e))
 
 pub raise_new : (v : Level) (t : ℕ) → (v.line ≡ t → ⊥) → level t 1 ≡ raised v t
 raise_new v t e = sym (simp (ne_eqb v.line t e))
@@ -52,7 +52,7 @@ opens_none v u w q =
 module _ (d : ℕ) (v : Level) (o : Bool) (l : ℕ) (h : d < cond o 7 8) (w : Walk) (q : Ready w) (i : d ≤ w.height) where
   level_stack : take (d + 1) (set w.levels d v) ≡ take d (open_lines w) ++ (v ∷ [])
   level_stack =
-      ap (λ (x : ℕ). take x (set w.levels d v)) (add_one d) ∙ take-suc-set w.levels d v (let e = q.eight in omega (arith, within_eight d o h))
+      ap (λ (x : ℕ). take x (set w.levels d v)) (add-one d) ∙ take-suc-set w.levels d v (let e = q.eight in omega (arith, within_eight d o h))
       ∙ ap (λ (x : List Level). x ++ (v ∷ [])) (sym (take-take d w.height w.levels i))
 
   pub opens_one : o ≡ false → Opens (record { depth = d; level = v; last = d; deepest = v; height = d + 1 }) w ((take d (open_lines w) ++ (v ∷ [])) ++ entered o l)
@@ -86,14 +86,14 @@ module _ (b : Plan) where
   close_last d v lines e h = let z : b.lines - v.line ≡ 0 = omega arith in sym (ap (is_clear b d (suc v.line)) z)
 
   pub close_is : (d : ℕ) (v : Level) (r : Bool) → r ≡ is_clear b d (v.line + 1) (suc b.lines - (v.line + 1)) → r ≡ can_close b d v
-  close_is d v r h = let z : suc b.lines - (v.line + 1) ≡ b.lines - v.line = omega arith in h ∙ ap₂ (is_clear b d) (add_one v.line) z
+  close_is d v r h = let z : suc b.lines - (v.line + 1) ≡ b.lines - v.line = omega arith in h ∙ ap₂ (is_clear b d) (add-one v.line) z
 
   pub move_same : (v : Level) (t m : ℕ) → v.line ≡ t → m ≡ b.maximum t → ltb v.count m ≡ can_move b v t
   move_same v t m e f = ap (ltb v.count) f ∙ sym (simp (eq-eqb v.line t e))
 
   pub move_far : (v : Level) (t d : ℕ) (r : Bool) → (v.line ≡ t → ⊥) → v.line < t → d ≡ b.depth t → r ≡ is_passed b d (v.line + 1) (t - (v.line + 1)) → r ≡ can_move b v t
   move_far v t d r n i e h =
-      h ∙ ap (λ (x : ℕ). is_passed b x (v.line + 1) (t - (v.line + 1))) e ∙ ap (λ (x : ℕ). is_passed b (b.depth t) x (t - x)) (add_one v.line)
+      h ∙ ap (λ (x : ℕ). is_passed b x (v.line + 1) (t - (v.line + 1))) e ∙ ap (λ (x : ℕ). is_passed b (b.depth t) x (t - x)) (add-one v.line)
       ∙ sym (simp (ne_eqb v.line t n, lt-ltb v.line t i))
 
   pub move_back : (v : Level) (t : ℕ) → (v.line ≡ t → ⊥) → t ≤ v.line → false ≡ can_move b v t
@@ -119,7 +119,7 @@ module _ (b : Plan) where
   pub shut_on : (w : Walk) (j : ℕ) (v : Level) (r : Bool) → Ready w → j < w.height → v ≡ get_or w.levels j (level 0 0) → r ≡ is_clear b j (suc v.line) (b.lines - v.line)
       → r ≡ true → can_close_all b (j + 1) (drop (j + 1) (open_lines w)) ≡ can_close_all b j (drop j (open_lines w))
   shut_on w j v r q i e h y =
-      ap (λ (x : ℕ). can_close_all b x (drop x (open_lines w))) (add_one j) ∙ ap (λ (x : Bool). x && can_close_all b (suc j) (drop (suc j) (open_lines w))) (sym y) ∙ sym (shut_step w j v r q i e h)
+      ap (λ (x : ℕ). can_close_all b x (drop x (open_lines w))) (add-one j) ∙ ap (λ (x : Bool). x && can_close_all b (suc j) (drop (suc j) (open_lines w))) (sym y) ∙ sym (shut_step w j v r q i e h)
 
   pub shut_stop : (w : Walk) (j : ℕ) (v : Level) (r : Bool) → Ready w → j < w.height → v ≡ get_or w.levels j (level 0 0) → r ≡ is_clear b j (suc v.line) (b.lines - v.line)
       → r ≡ false → can_close_all b j (drop j (open_lines w)) ≡ false
@@ -146,7 +146,7 @@ module _ (b : Plan) where
 
     pub admits_shut : (v : Level) (m r : Bool) → d < w.height → v ≡ get_or w.levels d (level 0 0) → m ≡ can_move b v t → m ≡ true → r ≡ can_close_all b (d + 1) (drop (d + 1) (open_lines w)) → r ≡ admits b (open_lines w) t
     admits_shut v m r i g h y k =
-        k ∙ ap (λ (x : ℕ). can_close_all b x (drop x (open_lines w))) (add_one d) ∙ sym (admits_low v m i g h ∙ ap (λ (x : Bool). x && can_close_all b (suc d) (drop (suc d) (open_lines w))) y)
+        k ∙ ap (λ (x : ℕ). can_close_all b x (drop x (open_lines w))) (add-one d) ∙ sym (admits_low v m i g h ∙ ap (λ (x : Bool). x && can_close_all b (suc d) (drop (suc d) (open_lines w))) y)
 
   -- is_trigger
   pub trigger_low : (l : ℕ) → l < 2 → false ≡ is_trigger b l
@@ -222,7 +222,7 @@ module _ (b : Plan) where
 
   pub open_here : (trail : List ℕ) (h n d : ℕ) (o : Bool) → o ≡ is_trigger b h → o ≡ true → d ≡ b.depth (target b h) → set trail (d + 1) n ≡ opened_by b trail h n
   unfolding opened_by
-  open_here trail h n d o e y k = ap (λ (x : ℕ). set trail x n) (add_one d ∙ ap suc k) ∙ sym (simp (sym e ∙ y))
+  open_here trail h n d o e y k = ap (λ (x : ℕ). set trail x n) (add-one d ∙ ap suc k) ∙ sym (simp (sym e ∙ y))
 
   pub open_too_deep : (trail : List ℕ) (h n d : ℕ) → length trail ≡ 8 → d ≡ b.depth (target b h) → 7 ≤ d → trail ≡ opened_by b trail h n
   unfolding opened_by

@@ -13,7 +13,7 @@ use reading::span::Span;
 use reading::{lookup, tag};
 
 // A component that has been looked up, and where it lies. Element 0 is none.
-#[derive(Drop)]
+#[derive(Clone, Copy)]
 pub struct Selected {
     pub element: u32,
     pub component: u32,

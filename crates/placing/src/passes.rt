@@ -13,7 +13,7 @@ use reading::service::Service;
 
 // What the test pass finds: the homes begin an allowed sequence; 10, the first segment without a home; or 11, the smallest k whose
 // first k homes begin no allowed sequence.
-#[derive(Drop)]
+#[derive(Clone, Copy)]
 pub enum Placing {
     Begins,
     NoHome(u32),

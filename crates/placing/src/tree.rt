@@ -6,7 +6,7 @@ ghost use Rattle.placing.specs.method.Tree.{root_only, parent_in, opened_by};
 use crate::walk;
 
 // For each depth the number of the trigger whose instance was opened there last; 0 for the message itself.
-#[derive(Drop)]
+#[derive(Clone, Copy)]
 pub struct Trail {
     pub triggers: [u32; 8],
 }

@@ -10,14 +10,14 @@ use guide::layout;
 use guide::words::KIND_GROUP;
 
 // An open line and how often it has come in its parent's instance.
-#[derive(Drop)]
+#[derive(Clone, Copy)]
 pub struct Level {
     pub line: u32,
     pub count: u32,
 }
 
 // The open lines, outermost first: `height` of them; none when the walk has been refused.
-#[derive(Drop)]
+#[derive(Clone, Copy)]
 pub struct Walk {
     pub levels: [Level; 8],
     pub height: usize,
@@ -219,7 +219,7 @@ impl Walk {
 
 // What a home changes of a walk: the open line of its depth, the last open line (the trigger, where it opens an instance; else the
 // same one again) and the height.
-#[derive(Drop)]
+#[derive(Clone, Copy)]
 pub struct Move {
     pub depth: usize,
     pub level: Level,

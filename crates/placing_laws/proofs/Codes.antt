@@ -4,7 +4,7 @@ use Prim.Native.Nat.{ℕ, zero, suc, ◌+◌, ◌≤◌, ◌<◌}
 use native.Mathlib.Omega.{arith}
 use mathlib.Core.Path.{◌≡◌, refl, sym, ap, ap₂, ◌∙◌, subst}
 use mathlib.Core.List.{List, [], ◌∷◌, map, append-nil}
-use mathlib.Core.Bool.{true, or_true, ◌||◌}
+use mathlib.Core.Bool.{true, or-true, ◌||◌}
 use mathlib.Core.Logic.{◌⊎◌, inl, inr}
 use lib.Dec.{eqb}
 use lib.ListN.{length, get_or, take, length-take}
@@ -28,8 +28,8 @@ use Rattle.reading.proofs.Booleans.{both, left, right, same_test}
 -- 01: "six bytes from A–Z, a–z, 0–9 and `.`": none of them is ever released
 word_byte : (x : ℕ) → ((0x41 ≤ x) × (x ≤ 0x5a)) ⊎ (((0x61 ≤ x) × (x ≤ 0x7a)) ⊎ (((0x30 ≤ x) × (x ≤ 0x39)) ⊎ (x ≡ 0x2e))) → IsWord x
 unfolding is_word_byte
-word_byte x (inl r) = simp (le-leb 0x41 x r.0, le-leb x 0x5a r.1, or_true)
-word_byte x (inr (inl r)) = simp (le-leb 0x61 x r.0, le-leb x 0x7a r.1, or_true)
+word_byte x (inl r) = simp (le-leb 0x41 x r.0, le-leb x 0x5a r.1, or-true)
+word_byte x (inr (inl r)) = simp (le-leb 0x61 x r.0, le-leb x 0x7a r.1, or-true)
 word_byte x (inr (inr (inl r))) = simp (le-leb 0x30 x r.0, le-leb x 0x39 r.1)
 word_byte x (inr (inr (inr e))) = rw e refl
 

@@ -1,7 +1,7 @@
 -- What a good book's lines keep, in the words that the laws of placing use.
 use Prim.Native.Nat.{ℕ, suc, ◌≤◌}
 use native.Mathlib.Omega.{arith}
-use native.Mathlib.Numerals.{add_one}
+use native.Mathlib.Numerals.{add-one}
 use mathlib.Core.Path.{◌≡◌, sym, ap, ◌∙◌, subst}
 use mathlib.Core.List.{List}
 use mathlib.Core.Logic.{◌⊎◌, inl, inr}
@@ -59,10 +59,10 @@ module _ (bs : List ℕ) (good : GoodBook bs) where
       let h = group_trigger bs good g a c k in
       record {
         within = let w = h.0 in omega arith;
-        deeper = ap (guide_of bs).depth (sym (add_one g)) ∙ h.1.1.0 ∙ add_one ((guide_of bs).depth g);
-        segment = not_group (suc g) (ap (guide_of bs).kind (sym (add_one g)) ∙ h.1.0);
-        required = eq-eqb ((guide_of bs).required (suc g)) 1 (ap (guide_of bs).required (sym (add_one g)) ∙ h.1.1.1.0);
-        once = ap (guide_of bs).maximum (sym (add_one g)) ∙ h.1.1.1.1;
+        deeper = ap (guide_of bs).depth (sym (add-one g)) ∙ h.1.1.0 ∙ add-one ((guide_of bs).depth g);
+        segment = not_group (suc g) (ap (guide_of bs).kind (sym (add-one g)) ∙ h.1.0);
+        required = eq-eqb ((guide_of bs).required (suc g)) 1 (ap (guide_of bs).required (sym (add-one g)) ∙ h.1.1.1.0);
+        once = ap (guide_of bs).maximum (sym (add-one g)) ∙ h.1.1.1.1;
       }
 
   falls_of : (l : ℕ) → 1 ≤ l → suc l ≤ (guide_of bs).lines → (plan_in bs).group l ≡ false → (guide_of bs).depth (suc l) ≤ (guide_of bs).depth l
@@ -70,7 +70,7 @@ module _ (bs : List ℕ) (good : GoodBook bs) where
   falls_of l a c k = go (line_kind bs good l a (omega arith))
     where
       go : ((guide_of bs).kind l ≡ segment_kind) ⊎ ((guide_of bs).kind l ≡ group_kind) → (guide_of bs).depth (suc l) ≤ (guide_of bs).depth l
-      go (inl e) = subst (λ (x : ℕ). (guide_of bs).depth x ≤ (guide_of bs).depth l) (add_one l) (line_falls bs good l a (omega arith) (e, omega arith))
+      go (inl e) = subst (λ (x : ℕ). (guide_of bs).depth x ≤ (guide_of bs).depth l) (add-one l) (line_falls bs good l a (omega arith) (e, omega arith))
       go (inr e) = absurd (true≢false (sym (eq-eqb ((guide_of bs).kind l) group_kind e) ∙ k))
 
   pub structured : Structured (plan_in bs)

@@ -1,5 +1,7 @@
 // The examples printed in documents 000 and 003, run through the reading: one a line on standard input, each written out as
 // its tag and, for every component, its element, its number and its value. What comes out is compared with ../stdout.
+#![tactic(auto)]
+
 ghost use Rattle.std.specs.Prelude.{◌≤◌, length};
 
 use libc::{STDIN_FILENO, STDOUT_FILENO};
@@ -107,7 +109,7 @@ fn write_segments(text: &[u8]) {
 }
 
 // How far a text is made of segments, one behind the other, and how many there are.
-#[derive(Drop)]
+#[derive(Clone, Copy)]
 struct Run {
     end: usize,
     segments: usize,

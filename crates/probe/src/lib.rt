@@ -1,5 +1,7 @@
 // For the tests alone: what the C door that is shipped, crate tracksaddle, does not show, as functions on numbers and slices, so that
 // Rust can call them over any bytes: the message's stage, the cursor, and the two passes of placing.
+#![tactic(auto)]
+
 ghost use Rattle.std.specs.Prelude.{◌≡◌, ◌+◌, ◌*◌, ◌^◌};
 ghost use Rattle.probe.specs.Probe.{packed, ample, next_of};
 ghost use Rattle.reading.specs.method.Machine.{next_segment};

@@ -32,9 +32,9 @@ neither false b e = (refl, e)
 pub or_left : (a b : Bool) → a ≡ true → (a || b) ≡ true
 or_left a b e = simp e
 
-pub or_true : (a : Bool) → (a || true) ≡ true
-or_true true = refl
-or_true false = refl
+pub or-true : (a : Bool) → (a || true) ≡ true
+or-true true = refl
+or-true false = refl
 
 pub or_right : (a b : Bool) → b ≡ true → (a || b) ≡ true
 or_right true b e = refl

@@ -1,7 +1,7 @@
 -- Two lists of bytes compared, turn by turn; and what the comparison says.
 use Prim.Native.Nat.{ℕ, ◌+◌, ◌≤◌, ◌<◌}
 use native.Mathlib.Omega.{arith}
-use native.Mathlib.Numerals.{add_one}
+use native.Mathlib.Numerals.{add-one}
 use mathlib.Core.Path.{◌≡◌, refl, sym, ap, ◌∙◌}
 use mathlib.Core.List.{List, [], ◌∷◌}
 use mathlib.Core.Bool.{Bool, true, false, ◌&&◌, false≢true}
@@ -48,7 +48,7 @@ module _ (xs ys : List ℕ) where
   unfolding same_component
   comparing_turn at h i =
       let k : at < length ys = let l = i.long in omega arith in
-      sym i.same ∙ rw (drop-cons xs at 0 h, drop-cons ys at 0 k, add_one)
+      sym i.same ∙ rw (drop-cons xs at 0 h, drop-cons ys at 0 k, add-one)
 
   pub comparing_differ : (at : ℕ) → at < length xs → Comparing xs ys at → (get_or xs at 0 ≡ get_or ys at 0 → ⊥) → false ≡ same_component xs ys
   comparing_differ at h i d = sym (comparing_turn at h i ∙ rw (ne_eqb _ _ d))

@@ -2,7 +2,7 @@
 -- goes on, byte by byte, and what its number says.
 use Prim.Native.Nat.{ℕ, suc, ◌+◌, ◌-◌, ◌≤◌, ◌<◌}
 use native.Mathlib.Omega.{arith}
-use native.Mathlib.Numerals.{add_one}
+use native.Mathlib.Numerals.{add-one}
 use mathlib.Core.Path.{◌≡◌, refl, sym, ap, ap₂, ◌∙◌}
 use mathlib.Core.List.{List, [], ◌∷◌}
 use mathlib.Core.Bool.{Bool, true, false, true≢false, not, ◌&&◌, ◌||◌}
@@ -187,7 +187,7 @@ module _ (s : Service) (bs : List ℕ) where
   end_turn : (p q : State) (at : ℕ) → at < length bs → stepped s p (get_or bs at 0) ≡ q
       → end_on s p at (drop at bs) ≡ pick (is_start q) (At at) (pick (is_dead q) Nowhere (end_on s q (at + 1) (drop (at + 1) bs)))
   unfolding end_on
-  end_turn p q at h e = rw (drop-cons bs at 0 h, e, add_one at)
+  end_turn p q at h e = rw (drop-cons bs at 0 h, e, add-one at)
 
   -- nothing is left
   end_out : (p : State) (at : ℕ) → length bs ≤ at → end_on s p at (drop at bs) ≡ Nowhere

@@ -1,7 +1,7 @@
 -- A scan, segment by segment: where one ends, the scan goes on behind it; where none does, it ends at the first bad byte.
 use Prim.Native.Nat.{ℕ, suc, ◌+◌, ◌-◌, ◌≤◌, ◌<◌}
 use native.Mathlib.Omega.{arith}
-use native.Mathlib.Numerals.{add_one}
+use native.Mathlib.Numerals.{add-one}
 use mathlib.Core.Path.{◌≡◌, refl, sym, ap, ap₂, ◌∙◌}
 use mathlib.Core.List.{List, [], ◌∷◌}
 use mathlib.Core.Bool.{Bool, true, false}
@@ -124,7 +124,7 @@ module _ (s : Service) (bs : List ℕ) (from : ℕ) where
   turn : (p q : State) (at : ℕ) → at < length bs → Looking p at → q ≡ stepped s p (get_or bs at 0)
       → pick (is_dead q) at (bad_on s q (at + 1) (drop (at + 1) bs)) ≡ bad_from s bs from
   unfolding bad_on
-  turn p q at h i e = sym (rw (drop-cons bs at 0 h, e, add_one at) refl) ∙ i
+  turn p q at h i e = sym (rw (drop-cons bs at 0 h, e, add-one at) refl) ∙ i
 
   pub looking_bad : (p q : State) (at : ℕ) → at < length bs → Looking p at → q ≡ stepped s p (get_or bs at 0) → is_dead q ≡ true → at ≡ bad_from s bs from
   looking_bad p q at h i e d = sym (ap (λ (x : Bool). pick x at (bad_on s q (at + 1) (drop (at + 1) bs))) d) ∙ turn p q at h i e

@@ -1,7 +1,7 @@
 -- The search for a component, turn by turn; and where it can end.
 use Prim.Native.Nat.{ℕ, suc, ◌+◌, ◌≤◌, ◌<◌}
 use native.Mathlib.Omega.{arith}
-use native.Mathlib.Numerals.{add_one}
+use native.Mathlib.Numerals.{add-one}
 use mathlib.Core.Path.{◌≡◌, refl, sym, ap, ap₂, ◌∙◌, subst}
 use mathlib.Core.List.{List, [], ◌∷◌}
 use mathlib.Core.Bool.{Bool, true, false, true≢false, ◌&&◌, ◌||◌}
@@ -108,7 +108,7 @@ module _ (s : Service) (bs : List ℕ) (from e c : ℕ) where
   seeking_turn : (k : Seek) (at : ℕ) (kind : Kind) (r : Sought) → at < length bs → Seeking s bs from e c k at → kind ≡ kind_of s (get_or bs at 0) → r ≡ sought e c k at kind
       → seek_from s bs from e c ≡ go_on r (λ next. seek_on s e c next (at + 1) (drop (at + 1) bs))
   unfolding seek_on
-  seeking_turn k at kind r h i ek er = sym i.same ∙ rw (drop-cons bs at 0 h, er, ek, add_one)
+  seeking_turn k at kind r h i ek er = sym i.same ∙ rw (drop-cons bs at 0 h, er, ek, add-one)
 
   seeking_lies : (k : Seek) (at : ℕ) (kind : Kind) (x : Span) → at < length bs → Seeking s bs from e c k at → kind ≡ kind_of s (get_or bs at 0)
       → Ends x ≡ sought e c k at kind → x ≡ seek_from s bs from e c

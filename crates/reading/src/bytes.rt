@@ -7,7 +7,7 @@ ghost use Rattle.reading.specs.method.Machine.{kind_of, is_text};
 use crate::service::Service;
 
 // What a byte is, under given service characters.
-#[derive(Drop)]
+#[derive(Clone, Copy)]
 pub enum Kind {
     Component,
     Element,

@@ -7,19 +7,19 @@ use crate::service::Service;
 use crate::span::Span;
 
 // Where a segment's terminator stands.
-#[derive(Drop)]
+#[derive(Clone, Copy)]
 pub enum End {
     At(usize),
     Nowhere,
 }
 
-#[derive(Drop)]
+#[derive(Clone, Copy)]
 pub struct Cursor {
     pub at: usize,
 }
 
 // The segment that starts at a cursor, without its terminator, and the cursor behind that.
-#[derive(Drop)]
+#[derive(Clone, Copy)]
 pub enum Found {
     Segment(Span, Cursor),
     Nothing,

@@ -9,7 +9,7 @@ use crate::service::Service;
 
 // Where reading stands: before the tag's first, second and third byte, after the tag, right behind the mark that opens an element,
 // right behind one that parts two components, behind data, after a release, or past a fault, from where nothing leads back.
-#[derive(Drop)]
+#[derive(Clone, Copy)]
 pub enum State {
     Start,
     Second,

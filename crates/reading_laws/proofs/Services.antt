@@ -2,7 +2,7 @@
 use Prim.Native.Nat.{ℕ}
 use native.Mathlib.Omega.{arith}
 use mathlib.Core.Path.{◌≡◌, refl, sym, ap, ◌∙◌}
-use mathlib.Core.Bool.{Bool, true, false, or_true, true≢false}
+use mathlib.Core.Bool.{Bool, true, false, or-true, true≢false}
 use lib.Dec.{eqb}
 use borrow.Author.Tests.{eq-eqb, ne_eqb, eqb-true}
 use Rattle.reading.specs.meaning.Service.{GoodService, standard, is_data, is_word_byte, must_release}
@@ -75,15 +75,15 @@ module _ (s : Service) where
 
   pub release_component : must_release s s.component ≡ true
   unfolding must_release
-  release_component = simp (eq-eqb s.component s.component refl, or_true)
+  release_component = simp (eq-eqb s.component s.component refl, or-true)
 
   pub release_element : must_release s s.element ≡ true
   unfolding must_release
-  release_element = simp (eq-eqb s.element s.element refl, or_true)
+  release_element = simp (eq-eqb s.element s.element refl, or-true)
 
   pub release_terminator : must_release s s.terminator ≡ true
   unfolding must_release
-  release_terminator = simp (eq-eqb s.terminator s.terminator refl, or_true)
+  release_terminator = simp (eq-eqb s.terminator s.terminator refl, or-true)
 
 module _ (s : Service) (good : GoodService s) where
   -- a good set's facts by name

@@ -2,7 +2,7 @@
 -- early answer, one for going on.
 use Prim.Native.Nat.{ℕ, zero, suc, ◌+◌, ◌*◌, ◌-◌, ◌≤◌, ◌<◌, ◌%◌, ◌^◌}
 use native.Mathlib.Omega.{arith}
-use native.Mathlib.Numerals.{add_one}
+use native.Mathlib.Numerals.{add-one}
 use mathlib.Core.Path.{◌≡◌, refl, sym, ap, ◌∙◌}
 use mathlib.Core.List.{List, [], ◌∷◌, map}
 use mathlib.Core.Bool.{Bool, true, false, not, cond, ◌&&◌, true≢false, false≢true}
@@ -35,7 +35,7 @@ values_next : (f : ℕ → ℕ) (k end : ℕ) → k < end → values_from f k (e
 unfolding values_from
 values_next f k end h =
     let e : end - k ≡ suc (end - (k + 1)) = omega arith in
-    ap (values_from f k) e ∙ ap (λ (j : ℕ). f k ∷ values_from f j (end - (k + 1))) (sym (add_one k))
+    ap (values_from f k) e ∙ ap (λ (j : ℕ). f k ∷ values_from f j (end - (k + 1))) (sym (add-one k))
 
 values_end : (f : ℕ → ℕ) (k end : ℕ) → end ≤ k → values_from f k (end - k) ≡ []
 unfolding values_from
@@ -149,7 +149,7 @@ opening_group {x} {o} e n = go o e
   where
     go : (o : ℕ) → x ≡ o → x + 1 ≡ opening o
     go zero q = absurd (n q)
-    go (suc o) q = add_one x ∙ ap suc q
+    go (suc o) q = add-one x ∙ ap suc q
 
 module _ (b : Plan) where
   climb_suc : (d x : ℕ) → climb b d (suc x) ≡ cond (ltb (deep b x) d) x (climb b d x)
@@ -187,12 +187,12 @@ module _ (o s : ℕ) where
   pub lap_stop : (seen j : ℕ) (hs : List ℕ) → j < length hs → get_or hs j 0 ≡ o
       → ◌≡◌ {A = Lap} (record { seen = seen; next = j + 1 }) (lap_from o s seen (suc j) (drop j hs))
   unfolding lap_from
-  lap_stop seen j hs h e = rw (drop-cons hs j 0, eq-eqb (get_or hs j 0) o e, add_one j)
+  lap_stop seen j hs h e = rw (drop-cons hs j 0, eq-eqb (get_or hs j 0) o e, add-one j)
 
   pub lap_on : (seen j : ℕ) (hs : List ℕ) → j < length hs → (get_or hs j 0 ≡ o → ⊥)
       → lap_from o s seen (suc j) (drop j hs) ≡ lap_from o s (noted (get_or hs j 0) s seen (j + 1)) (suc (j + 1)) (drop (j + 1) hs)
   unfolding lap_from
-  lap_on seen j hs h e = rw (drop-cons hs j 0, ne_eqb (get_or hs j 0) o e, add_one j) refl
+  lap_on seen j hs h e = rw (drop-cons hs j 0, ne_eqb (get_or hs j 0) o e, add-one j) refl
 
   pub lap_end : (seen j : ℕ) (hs : List ℕ) → j ≤ length hs → length hs ≤ j
       → ◌≡◌ {A = Lap} (record { seen = seen; next = j + 1 }) (lap_from o s seen (suc j) (drop j hs))
@@ -200,7 +200,7 @@ module _ (o s : ℕ) where
   lap_end seen j hs h e =
       let q : j ≡ length hs = omega arith in
       let d : drop j hs ≡ [] = ap (λ (k : ℕ). drop k hs) q ∙ drop-length hs in
-      rw (d, add_one j)
+      rw (d, add-one j)
 
 -- ---- the Prüfidentifikator
 
@@ -210,7 +210,7 @@ module _ (value : List ℕ) (f : ℕ → ℕ) (end : ℕ) (long : length value �
 
   same_next : (k : ℕ) → k < end → same_from k ≡ (eqb (get_or value k 0) (f k) && same_from (k + 1))
   unfolding same_component
-  same_next k h = rw (drop-cons value k 0 (omega arith), values_next f k end h, add_one k) refl
+  same_next k h = rw (drop-cons value k 0 (omega arith), values_next f k end h, add-one k) refl
 
   pub same_differs : (k : ℕ) → k < end → (get_or value k 0 ≡ f k → ⊥) → false ≡ same_from k
   same_differs k h n = sym (same_next k h ∙ ap (λ (t : Bool). t && same_from (k + 1)) (ne_eqb (get_or value k 0) (f k) n))
@@ -237,7 +237,7 @@ module _ (g : Guide) (value : List ℕ) where
   identified_next p end h =
       let e : end - p ≡ suc (end - (p + 1)) = omega arith in
       ap (identified_from g value p) e
-      ∙ ap (λ (q : ℕ). cond (same_component value (identifier_value g p)) (Known p) (identified_from g value q (end - (p + 1)))) (sym (add_one p))
+      ∙ ap (λ (q : ℕ). cond (same_component value (identifier_value g p)) (Known p) (identified_from g value q (end - (p + 1)))) (sym (add-one p))
 
   pub identified_here : (p end : ℕ) → p < end → same_component value (identifier_value g p) ≡ true → Known p ≡ identified_from g value p (end - p)
   identified_here p end h e =

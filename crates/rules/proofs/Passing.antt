@@ -2,7 +2,7 @@
 -- from the next trigger on; so a row that is kept leaves the first finding to the rest, and one that is not is the first finding.
 use Prim.Native.Nat.{ℕ, zero, suc, ◌+◌, ◌-◌, ◌≤◌, ◌<◌}
 use native.Mathlib.Omega.{arith}
-use native.Mathlib.Numerals.{add_one}
+use native.Mathlib.Numerals.{add-one}
 use mathlib.Core.Path.{◌≡◌, refl, sym, ap, ◌∙◌}
 use mathlib.Core.List.{List, [], ◌∷◌, tail-eq_of_cons-eq, cons≢nil}
 use mathlib.Core.Bool.{Bool, true, false, cond, true≢false, false≢true}
@@ -149,7 +149,7 @@ module _ (g : Guide) (p : ℕ) (cs hs : List ℕ) where
   rows_next l h =
       let e : g.lines - l ≡ suc (g.lines - (l + 1)) = omega arith in
       ap (scanned_from g p cs hs (suc l)) e
-      ∙ ap (λ (m : ℕ). scanned_line (watch_of g p cs m) m hs (scanned_from g p cs hs (suc m) (g.lines - (l + 1)))) (sym (add_one l))
+      ∙ ap (λ (m : ℕ). scanned_line (watch_of g p cs m) m hs (scanned_from g p cs hs (suc m) (g.lines - (l + 1)))) (sym (add-one l))
 
   pub line_begun : (l : ℕ) (w : Watch) (t : ℕ) → l < g.lines → w ≡ watch_of g p cs (l + 1) → t ≡ first_instance w hs
       → found_from w (l + 1) hs (found_behind (l + 1)) t ≡ found_behind l

@@ -1,7 +1,7 @@
 -- The steps of the loop that tests a list of conditions.
 use Prim.Native.Nat.{ℕ, ◌+◌, ◌≤◌, ◌<◌}
 use native.Mathlib.Omega.{arith}
-use native.Mathlib.Numerals.{add_one}
+use native.Mathlib.Numerals.{add-one}
 use mathlib.Core.Path.{◌≡◌, refl, sym, ◌∙◌}
 use mathlib.Core.List.{List}
 use mathlib.Core.Bool.{true, false, ◌&&◌}
@@ -23,7 +23,7 @@ module _ (cs : List ℕ) where
   module _ (at : ℕ) (i : Asking cs at) where
     turn : at < length cs → are_truth_values cs ≡ leb (get_or cs at 0) 2 && are_truth_values (drop (at + 1) cs)
     unfolding are_truth_values
-    turn h = sym i.same ∙ rw (drop-cons cs at 0 h, add_one)
+    turn h = sym i.same ∙ rw (drop-cons cs at 0 h, add-one)
 
     pub asking_high : at < length cs → 2 < get_or cs at 0 → false ≡ are_truth_values cs
     asking_high h x = sym (turn h ∙ rw (lt-leb (get_or cs at 0) 2 x))

@@ -11,7 +11,7 @@ use guide::layout;
 use guide::words::{JOINT_ANY, MODE_MAY_IF, MODE_MUST, MODE_MUST_IF, MODE_NEVER};
 
 // In which fillings a row is broken; where in some only, with the lowest unknown condition of the row.
-#[derive(Drop)]
+#[derive(Clone, Copy)]
 pub enum Breach {
     Never,
     Always,

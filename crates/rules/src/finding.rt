@@ -1,6 +1,6 @@
 // What is found in the rows. 01, numbers 14 and 15.
 
-#[derive(Drop)]
+#[derive(Clone, Copy)]
 pub enum Finding {
     // No filling breaks any row.
     Kept,

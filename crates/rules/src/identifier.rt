@@ -8,7 +8,7 @@ ghost use Rattle.rules.specs.method.Identifiers.{identified};
 use guide::layout;
 
 // Its number in the book, counted from 0; or the book does not have it.
-#[derive(Drop)]
+#[derive(Clone, Copy)]
 pub enum Identified {
     Known(u32),
     Foreign,

@@ -11,7 +11,7 @@ use guide::words::KIND_GROUP;
 
 // In one instance: the first segment that shows the line, 0 if there is none, and the trigger of the next instance, one behind
 // the last segment if there is none.
-#[derive(Drop)]
+#[derive(Clone, Copy)]
 pub struct Lap {
     pub seen: usize,
     pub next: usize,

@@ -13,7 +13,7 @@ use guide::layout;
 
 // The home of the triggers of the line's parent (0 for the message), the home of the segments that show the line, and what its row
 // comes to where the line is present and where it is not.
-#[derive(Drop)]
+#[derive(Clone, Copy)]
 pub struct Watch {
     pub trigger: u32,
     pub sign: u32,

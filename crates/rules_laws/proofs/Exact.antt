@@ -22,7 +22,7 @@ use Rattle.rules.specs.meaning.Rows.{condition_number, is_negated, literal, all_
 use Rattle.rules.specs.method.Scanning.{guessed, joined, reading, read_row, weighed, breach_of, first_unknown}
 use Rattle.rules.specs.declared.breach.Breach.TheVariants.{Never, Always, Sometimes}
 use Rattle.rules_laws.proofs.Fillings.{Agree, LooksAt, some_is, some_has}
-use Rattle.reading.proofs.Booleans.{or_true}
+use Rattle.reading.proofs.Booleans.{or-true}
 
 -- ---- an expression, joint by joint
 
@@ -113,7 +113,7 @@ joined_below : (any v w x y : Bool) → Below v x → Below w y → Below (joine
 joined_below false true w x y h k e = rw (h refl) (k e)
 joined_below false false w x y h k e = absurd (false≢true e)
 joined_below true true w x y h k e = rw (h refl)
-joined_below true false w x y h k e = rw (k e) (or_true x)
+joined_below true false w x y h k e = rw (k e) (or-true x)
 
 literal_above : (u v w : Bool) → (u ≡ false → w ≡ v) → Below (cond u false v) w
 literal_above true v w h e = absurd (false≢true e)

@@ -11,7 +11,7 @@ use mathlib.Core.Logic.{⊎_elim, ◌↔◌}
 use lib.Dec.{eqb, ltb}
 use lib.ListN.{length, get_or, set, get_or-eq_default}
 use lib.Seq.{get_or-set_same, get_or-set_other}
-use borrow.Author.Tests.{eq-eqb, ne_eqb, eqb-true, eqb-false, ltb-true, ltb-false, not-true, not_false}
+use borrow.Author.Tests.{eq-eqb, ne_eqb, eqb-true, eqb-false, ltb-true, ltb-false, not-true, not-false}
 use Rattle.rules.specs.meaning.Conditions.{Assignment, said, is_unknown, told, Filling, Chosen, Fills, Learned, Learns}
 use Rattle.rules_laws.specs.laws.FirstFound.{filled, some, every}
 use Rattle.reading.proofs.Booleans.{one_of, or_left, or_right}
@@ -231,7 +231,7 @@ some_filling cs ks test l =
 pub every_filling : (cs ks : List ℕ) (test : Assignment → Bool) → LooksAt ks test
     → (every cs ks test ≡ true) ↔ ((a : Assignment) → Filling cs a → test a ≡ true)
 every_filling cs ks test l = (
-  λ e a p. not_false (test a) (some_not cs ks (λ b. not (test b)) a p other (not-true (some cs ks (λ b. not (test b))) e)),
+  λ e a p. not-false (test a) (some_not cs ks (λ b. not (test b)) a p other (not-true (some cs ks (λ b. not (test b))) e)),
   λ h. go (some cs ks (λ a. not (test a))) refl h,
 )
   where

@@ -131,9 +131,9 @@ climbed b d (suc x) h i = go (ltb (deep b x) d) refl (climbed b d x h)
         near y j k c n (other q f) = c.between y j (omega arith)
 
 module _ (b : Plan) (s : Structured b) where
-  not_false : (t : Bool) → (t ≡ false → ⊥) → t ≡ true
-  not_false true n = refl
-  not_false false n = absurd (n refl)
+  not-false : (t : Bool) → (t ≡ false → ⊥) → t ≡ true
+  not-false true n = refl
+  not-false false n = absurd (n refl)
 
   -- one deeper than its owner
   one_deeper : (l p : ℕ) → 1 ≤ l → l ≤ b.lines → Climbed b (deep b l) l p → deep b l ≡ suc (deep b p)
@@ -162,7 +162,7 @@ module _ (b : Plan) (s : Structured b) where
           let n = next in
           let h = c.higher in
           let u = line_deep b p (omega arith) in
-          let grp : b.group p ≡ true = not_false (b.group p) (λ f. let y = s.falls p (omega arith) (omega arith) f in omega arith) in
+          let grp : b.group p ≡ true = not-false (b.group p) (λ f. let y = s.falls p (omega arith) (omega arith) f in omega arith) in
           let t = (s.trigger p (omega arith) (omega arith) grp).deeper in
           omega arith
 
@@ -180,7 +180,7 @@ module _ (b : Plan) (s : Structured b) where
   -- and its owner is a group
   owner_group : (o l : ℕ) → 0 < o → Of b o l → b.group o ≡ true
   owner_group o l h of =
-      not_false (b.group o)
+      not-false (b.group o)
       (λ f. let z = behind-opening o h in
       let d = of.inside (suc o) (omega arith) (omega arith) in
       let u = line_deep b o h in

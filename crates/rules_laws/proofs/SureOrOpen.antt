@@ -9,7 +9,7 @@ use mathlib.Core.Logic.{◌↔◌}
 use mathlib.Core.List.{List, [], ◌∷◌}
 use mathlib.Core.Bool.{Bool, true, false, not, cond}
 use lib.ListN.{get_or}
-use borrow.Author.Tests.{ne_eqb, not-true, not_false}
+use borrow.Author.Tests.{ne_eqb, not-true, not-false}
 use Rattle.reading.specs.meaning.Service.{All}
 use Rattle.guide.specs.meaning.Guide.{Guide, guide_of}
 use Rattle.book.specs.meaning.GoodBook.{GoodBook}
@@ -46,7 +46,7 @@ over cs e l = go (some cs e.conditions e.is_broken_by) (some cs e.conditions (λ
     go false w p q = never p (λ a h. some_not cs e.conditions e.is_broken_by a h (λ x y _ _ r. l x y r) p)
     go true false p q =
         always p (ap not q)
-        (λ a h. not_false (e.is_broken_by a) (some_not cs e.conditions (λ b. not (e.is_broken_by b)) a h (λ x y _ _ r. ap not (l x y r)) q))
+        (λ a h. not-false (e.is_broken_by a) (some_not cs e.conditions (λ b. not (e.is_broken_by b)) a h (λ x y _ _ r. ap not (l x y r)) q))
     go true true p q =
         sometimes p (ap not q) (some_is cs e.conditions e.is_broken_by p) (flip (some_is cs e.conditions (λ a. not (e.is_broken_by a)) q))
 

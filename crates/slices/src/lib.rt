@@ -1,4 +1,6 @@
 // Slices at any place: past the end there is 0 to be read, and nothing is written. Messages, books and lent tables are read and written so.
+#![tactic(auto)]
+
 ghost use Rattle.std.specs.Prelude.{◌≡◌, ◌<◌, get_or, set};
 ghost use Rattle.slices.specs.method.Entries.{entry};
 

@@ -38,9 +38,9 @@ module _ (tally : List ℕ) where
         let test = eq-eqb (count_of tally number) full is-full in
         (simp (long, there, test), simp (long, there, test))
 
-    pub add_one : (number : ℕ) → number < counts → (count_of tally number ≡ full → ⊥) → AddGives tally number 0 (with_count tally number (count_of tally number + 1))
+    pub add-one : (number : ℕ) → number < counts → (count_of tally number ≡ full → ⊥) → AddGives tally number 0 (with_count tally number (count_of tally number + 1))
     unfolding answer_to_add tally_after_add
-    add_one number inside not_full =
+    add-one number inside not_full =
         let long = eq-eqb (length tally) tally_length right in
         let there = lt-leb counts number inside in
         let test = ne_eqb (count_of tally number) full not_full in

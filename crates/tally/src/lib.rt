@@ -1,4 +1,6 @@
 // A daily count for each verdict number, in lent bytes that the caller keeps: 02, T-06.
+#![tactic(auto)]
+
 mod counts;
 
 ghost use Rattle.std.specs.Prelude.{◌≡◌, length, replicate};

@@ -10,7 +10,7 @@ use lib.Dec.{eqb}
 use borrow.Author.Tests.{eq-eqb, ne_eqb, eqb-true, eqb-false}
 use Rattle.tally.specs.meaning.Tally.{counts, tally_length, count_of}
 use Rattle.tally.specs.statements.AddsUp.{Asked, add, clear, Call, answer_to, answered, after_call, after, Day, day_after, day_of, how_often, sum_of, TallyAddsUp}
-use Rattle.tally.proofs.Cases.{add_of_wrong_length, add_outside, add_to_full, add_one, clear_of_wrong_length, clear_all}
+use Rattle.tally.proofs.Cases.{add_of_wrong_length, add_outside, add_to_full, add-one, clear_of_wrong_length, clear_all}
 use Rattle.tally_laws.proofs.Counts.{Bytes}
 use Rattle.tally_laws.proofs.OneCall.{Moved, one_more_lem, zeroed, Outcome, refused, accepted, outcome, count_in_memory}
 use Rattle.tally_laws.proofs.Sums.{Below, sum_alike, sum_both, sum_how_often}
@@ -90,7 +90,7 @@ adds_up memory b calls =
       wrong_length_answers_one = λ call. wrong_length (take call.lent now) call.asked;
       outside_answers_two = λ long number outside. sym (add_outside tally (right long) number outside).0;
       full_answers_three = λ long number inside is-full. sym (add_to_full tally (right long) number inside (sym (same long number inside) ∙ is-full)).0;
-      not_full_answers_zero = λ long number inside not_full. sym (add_one tally (right long) number inside (λ is-full. not_full (same long number inside ∙ is-full))).0;
+      not_full_answers_zero = λ long number inside not_full. sym (add-one tally (right long) number inside (λ is-full. not_full (same long number inside ∙ is-full))).0;
       clearing_answers_zero = λ long. sym (clear_all tally (right long)).0;
       refused_changes_nothing = λ call answer. same_when_refused now call answer (outcome now sound.bytes call);
       behind = sound.behind;

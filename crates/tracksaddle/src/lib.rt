@@ -1,4 +1,6 @@
 // The C door: what c/tracksaddle.h declares, and nothing else. Numbers and slices pass; the work is done below.
+#![tactic(auto)]
+
 ghost use Rattle.std.specs.Prelude.{◌≡◌};
 ghost use Rattle.slices.specs.meaning.Lent.{as_many_as_fit};
 ghost use Rattle.tracksaddle.specs.meaning.Door.{part_numbers};

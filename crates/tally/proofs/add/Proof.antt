@@ -3,7 +3,7 @@ use Prim.Native.Nat.{ℕ, ◌+◌}
 use native.Mathlib.Omega.{arith}
 use mathlib.Core.Path.{ap, ◌∙◌}
 use Rattle.tally.specs.meaning.Tally.{with_count}
-use Rattle.tally.proofs.Cases.{add_of_wrong_length, add_outside, add_to_full, add_one}
+use Rattle.tally.proofs.Cases.{add_of_wrong_length, add_outside, add_to_full, add-one}
 use borrow.Author.Rules.{rules}
 use Rattle.tally.proofs.add.Statement.{statement}
 use Rattle.tally.proofs.add.Tie as tie
@@ -42,7 +42,7 @@ returns-4 c =
     let counted = at-full-test.before.count_of in
     let inside = at-full-test.before.before.before in
     let args = inside.before.before.before.args in
-    let done = add_one args.tally.now inside.before.if1.false args.number inside.if2.false (λ is-full. omega (arith, counted.ensures, at-full-test.if3.false, is-full)) in
+    let done = add-one args.tally.now inside.before.if1.false args.number inside.if2.false (λ is-full. omega (arith, counted.ensures, at-full-test.if3.false, is-full)) in
     (done.0, put.ensures ∙ ap (λ (count : ℕ). with_count args.tally.now args.number (count + 1)) counted.ensures ∙ done.1)
 
 pub add_spec : {M : Type 1} → statement M

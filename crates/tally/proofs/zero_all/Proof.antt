@@ -1,7 +1,7 @@
 -- `zero_all` meets its contract. At the head of its loop the bytes are zeros as far as it has come, and behind that as they were.
 use Prim.Native.Nat.{ℕ, zero, suc, ◌-◌, ◌≤◌, ◌<◌, zero-le}
 use native.Mathlib.Nat.{le_of_suc-le-suc, not-suc-le-zero}
-use native.Mathlib.Numerals.{add_one}
+use native.Mathlib.Numerals.{add-one}
 use native.Mathlib.Omega.{arith}
 use mathlib.Core.Path.{◌≡◌, refl, sym, ap, ◌∙◌}
 use mathlib.Core.List.{List, [], ◌∷◌, ◌++◌, append-nil}
@@ -44,7 +44,7 @@ loop-again c =
     let args = c.before.before.args in
     let at-loop = c.before.loop in
     let before : at-loop.at < length args.bytes.now = omega (arith, at-loop.invariant.2, c.loop-test.true) in
-    (omega arith, ap (λ (l : List ℕ). set l at-loop.at 0) at-loop.invariant.1 ∙ store args.bytes.now at-loop.at before ∙ ap (λ (n : ℕ). replicate n 0 ++ drop n args.bytes.now) (sym (add_one at-loop.at)), length-set at-loop.bytes at-loop.at 0 ∙ at-loop.invariant.2)
+    (omega arith, ap (λ (l : List ℕ). set l at-loop.at 0) at-loop.invariant.1 ∙ store args.bytes.now at-loop.at before ∙ ap (λ (n : ℕ). replicate n 0 ++ drop n args.bytes.now) (sym (add-one at-loop.at)), length-set at-loop.bytes at-loop.at 0 ∙ at-loop.invariant.2)
 
 same_length : tie.Need-same-length invariant-loop decreases-loop
 same_length c = search rules

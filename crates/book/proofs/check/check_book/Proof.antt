@@ -1,7 +1,7 @@
 -- `check::check_book` meets its contract: what the three tests found decides whether the book is good.
 use mathlib.Core.Path.{sym, ◌∙◌}
 use borrow.Author.Rules.{rules}
-use borrow.Author.Tests.{not-true, not_false}
+use borrow.Author.Tests.{not-true, not-false}
 use Rattle.book.proofs.Checking.{header_small, records_within, header_bad, records_bad, frame_bad, all_good}
 use Rattle.book.proofs.check.check_book.Statement.{statement}
 use Rattle.book.proofs.check.check_book.Tie as tie
@@ -13,7 +13,7 @@ returns : tie.Need-returns
 returns c = header_bad _ (sym c.before.header-is-good.ensures ∙ not-true _ c.if1.true)
 
 records-are-good-requires : tie.Need-records-are-good-requires
-records-are-good-requires c κs = header_small _ (sym c.before.header-is-good.ensures ∙ not_false _ c.if1.false)
+records-are-good-requires c κs = header_small _ (sym c.before.header-is-good.ensures ∙ not-false _ c.if1.false)
 
 returns-2 : tie.Need-returns-2
 returns-2 c = records_bad _ (sym c.before.records-are-good.ensures ∙ not-true _ c.if2.true)
@@ -21,8 +21,8 @@ returns-2 c = records_bad _ (sym c.before.records-are-good.ensures ∙ not-true 
 frame-is-good-requires : tie.Need-frame-is-good-requires
 frame-is-good-requires c κs =
     records_within _
-    (header_small _ (sym c.before.before.before.header-is-good.ensures ∙ not_false _ c.before.before.if1.false))
-    (sym c.before.records-are-good.ensures ∙ not_false _ c.if2.false)
+    (header_small _ (sym c.before.before.before.header-is-good.ensures ∙ not-false _ c.before.before.if1.false))
+    (sym c.before.records-are-good.ensures ∙ not-false _ c.if2.false)
 
 returns-3 : tie.Need-returns-3
 returns-3 c = frame_bad _ (sym c.before.frame-is-good.ensures ∙ not-true _ c.if3.true)
@@ -33,7 +33,7 @@ returns-4 c =
     let if1 = c.before.before.before.before.if1 in
     let records-are-good = c.before.before.before.records-are-good in
     let header-is-good = c.before.before.before.before.before.header-is-good in
-    all_good _ (sym header-is-good.ensures ∙ not_false _ if1.false) (sym records-are-good.ensures ∙ not_false _ if2.false) (sym c.before.frame-is-good.ensures ∙ not_false _ c.if3.false)
+    all_good _ (sym header-is-good.ensures ∙ not-false _ if1.false) (sym records-are-good.ensures ∙ not-false _ if2.false) (sym c.before.frame-is-good.ensures ∙ not-false _ c.if3.false)
 
 pub check-book-spec : {M : Type 1} → statement M
 check-book-spec =

@@ -3,7 +3,7 @@ use Prim.Native.Nat.{◌*◌, ◌<◌, ◌^◌}
 use native.Mathlib.Omega.{arith}
 use mathlib.Core.Path.{◌∙◌, ap₂, sym}
 use borrow.Author.Rules.{rules}
-use borrow.Author.Tests.{not_false, not-true}
+use borrow.Author.Tests.{not-false, not-true}
 use Rattle.book.specs.meaning.GoodBook.{code_rule, field_rule}
 use Rattle.book.specs.method.Each.{identifier_rule, line_rule, row_rule, records_rule}
 use Rattle.guide.specs.meaning.Guide.{guide_of}
@@ -36,7 +36,7 @@ returns-2 c =
     let every = c.before.before.before.before.every in
     let lines = c.before.before.before.before.before.lines in
     let args = c.before.before.before.before.before.before.before.args in
-    let g = guide_of args.book.now in goes_on _ _ _ (sym (asked (line_rule g) 1 every.ensures lines.ensures.0) ∙ not_false _ if1.false) (fails_here _ _ (sym (asked (code_rule g) 0 c.before.every2.ensures codes.ensures.0) ∙ not-true _ c.if2.true))
+    let g = guide_of args.book.now in goes_on _ _ _ (sym (asked (line_rule g) 1 every.ensures lines.ensures.0) ∙ not-false _ if1.false) (fails_here _ _ (sym (asked (code_rule g) 0 c.before.every2.ensures codes.ensures.0) ∙ not-true _ c.if2.true))
 
 fields-requires : tie.Need-fields-requires
 fields-requires c κs = search rules
@@ -58,8 +58,8 @@ returns-3 c =
     let lines = c.before.before.before.before.before.before.before.before.lines in
     let args = c.before.before.before.before.before.before.before.before.before.before.args in
     let g = guide_of args.book.now in
-    goes_on _ _ _ (sym (asked (line_rule g) 1 every.ensures lines.ensures.0) ∙ not_false _ if1.false)
-    (goes_on _ _ _ (sym (asked (code_rule g) 0 every2.ensures codes.ensures.0) ∙ not_false _ if2.false)
+    goes_on _ _ _ (sym (asked (line_rule g) 1 every.ensures lines.ensures.0) ∙ not-false _ if1.false)
+    (goes_on _ _ _ (sym (asked (code_rule g) 0 every2.ensures codes.ensures.0) ∙ not-false _ if2.false)
     (fails_here _ _ (sym (asked (field_rule g) 0 c.before.every3.ensures fields.ensures.0) ∙ not-true _ c.if3.true)))
 
 identifiers-requires : tie.Need-identifiers-requires
@@ -85,9 +85,9 @@ returns-4 c =
     let lines = c.before.before.before.before.before.before.before.before.before.before.before.lines in
     let args = c.before.before.before.before.before.before.before.before.before.before.before.before.before.args in
     let g = guide_of args.book.now in
-    goes_on _ _ _ (sym (asked (line_rule g) 1 every.ensures lines.ensures.0) ∙ not_false _ if1.false)
-    (goes_on _ _ _ (sym (asked (code_rule g) 0 every2.ensures codes.ensures.0) ∙ not_false _ if2.false)
-    (goes_on _ _ _ (sym (asked (field_rule g) 0 every3.ensures fields.ensures.0) ∙ not_false _ if3.false)
+    goes_on _ _ _ (sym (asked (line_rule g) 1 every.ensures lines.ensures.0) ∙ not-false _ if1.false)
+    (goes_on _ _ _ (sym (asked (code_rule g) 0 every2.ensures codes.ensures.0) ∙ not-false _ if2.false)
+    (goes_on _ _ _ (sym (asked (field_rule g) 0 every3.ensures fields.ensures.0) ∙ not-false _ if3.false)
     (fails_here _ _ (sym (asked (identifier_rule g) 0 c.before.every4.ensures identifiers.ensures.0) ∙ not-true _ c.if4.true))))
 
 identifiers-requires-2 : tie.Need-identifiers-requires-2
@@ -124,10 +124,10 @@ returns-5 c =
     let lines = c.before.before.before.before.before.before.before.before.before.before.before.before.before.before.lines in
     let args = c.before.before.before.before.before.before.before.before.before.before.before.before.before.before.before.before.args in
     let g = guide_of args.book.now in
-    goes_on _ _ _ (sym (asked (line_rule g) 1 every.ensures lines.ensures.0) ∙ not_false _ if1.false)
-    (goes_on _ _ _ (sym (asked (code_rule g) 0 every2.ensures codes.ensures.0) ∙ not_false _ if2.false)
-    (goes_on _ _ _ (sym (asked (field_rule g) 0 every3.ensures fields.ensures.0) ∙ not_false _ if3.false)
-    (goes_on _ _ _ (sym (asked (identifier_rule g) 0 every4.ensures identifiers.ensures.0) ∙ not_false _ if4.false)
+    goes_on _ _ _ (sym (asked (line_rule g) 1 every.ensures lines.ensures.0) ∙ not-false _ if1.false)
+    (goes_on _ _ _ (sym (asked (code_rule g) 0 every2.ensures codes.ensures.0) ∙ not-false _ if2.false)
+    (goes_on _ _ _ (sym (asked (field_rule g) 0 every3.ensures fields.ensures.0) ∙ not-false _ if3.false)
+    (goes_on _ _ _ (sym (asked (identifier_rule g) 0 every4.ensures identifiers.ensures.0) ∙ not-false _ if4.false)
     (asked (row_rule g) 0 c.every5.ensures (ap₂ ◌*◌ identifiers2.ensures.0 c.before.lines2.ensures.0)))))
 
 pub records-are-good-spec : {M : Type 1} → statement M

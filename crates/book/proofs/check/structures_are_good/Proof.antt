@@ -2,7 +2,7 @@
 use Prim.Native.Nat.{ℕ, ◌+◌}
 use native.Mathlib.Omega.{arith}
 use mathlib.Core.Path.{◌≡◌, refl, sym, ◌∙◌}
-use borrow.Author.Tests.{not-true, not_false}
+use borrow.Author.Tests.{not-true, not-false}
 use Rattle.book.specs.method.Each.{structure_rule}
 use Rattle.guide.specs.meaning.Guide.{guide_of}
 use Rattle.book.specs.method.Run.{run, all}
@@ -55,7 +55,7 @@ loop-again c =
     let loop-test = c.before.before.loop-test in
     let loop = c.before.before.before.loop in
     let args = c.before.before.before.before.before.args in
-    (all_on (λ (i : ℕ). run (structure_rule (guide_of args.book.now) i)) loop.line loop.left loop-test.true (sym c.before.structure-is-good.ensures ∙ not_false _ c.if1.false) ∙ loop.invariant.0, omega (arith, loop.invariant.1, loop-test.true))
+    (all_on (λ (i : ℕ). run (structure_rule (guide_of args.book.now) i)) loop.line loop.left loop-test.true (sym c.before.structure-is-good.ensures ∙ not-false _ c.if1.false) ∙ loop.invariant.0, omega (arith, loop.invariant.1, loop-test.true))
 
 returns-2 : tie.Need-returns-2 invariant-loop decreases-loop
 returns-2 c = sym (all_end (λ (i : ℕ). run (structure_rule (guide_of (c.before.before.before.args.book.now)) i)) c.before.loop.line c.before.loop.left c.loop-test.false) ∙ c.before.loop.invariant.0

@@ -2,7 +2,7 @@
 use Prim.Native.Nat.{ℕ, ◌+◌}
 use native.Mathlib.Omega.{arith}
 use mathlib.Core.Path.{◌≡◌, refl, sym, ◌∙◌}
-use borrow.Author.Tests.{not-true, not_false}
+use borrow.Author.Tests.{not-true, not-false}
 use Rattle.book.specs.method.Each.{rule_for}
 use Rattle.guide.specs.meaning.Guide.{guide_of}
 use Rattle.book.specs.method.Run.{run, all}
@@ -55,7 +55,7 @@ loop-again c =
     let loop-test = c.before.before.loop-test in
     let loop = c.before.before.before.loop in
     let args = c.before.before.before.before.before.args in
-    (all_on (λ (i : ℕ). run (rule_for args.each (guide_of args.book.now) args.subject i)) loop.number loop.left loop-test.true (sym c.before.holds.ensures ∙ not_false _ c.if1.false) ∙ loop.invariant.0, omega (arith, loop.invariant.1, loop-test.true))
+    (all_on (λ (i : ℕ). run (rule_for args.each (guide_of args.book.now) args.subject i)) loop.number loop.left loop-test.true (sym c.before.holds.ensures ∙ not-false _ c.if1.false) ∙ loop.invariant.0, omega (arith, loop.invariant.1, loop-test.true))
 
 returns-2 : tie.Need-returns-2 invariant-loop decreases-loop
 returns-2 c =

@@ -2,7 +2,7 @@
 use Prim.Native.Nat.{ℕ, ◌+◌, ◌-◌, ◌≤◌}
 use native.Mathlib.Omega.{arith}
 use mathlib.Core.Path.{◌≡◌, sym, ◌∙◌}
-use borrow.Author.Tests.{not-true, not_false}
+use borrow.Author.Tests.{not-true, not-false}
 use Rattle.book.specs.method.Each.{home_rule}
 use Rattle.book.specs.meaning.GoodBook.{pair_rule}
 use Rattle.guide.specs.meaning.Guide.{guide_of}
@@ -65,7 +65,7 @@ loop-again c =
     let loop-test = c.before.before.before.loop-test in
     let loop = c.before.before.before.before.loop in
     let args = c.before.before.before.before.before.before.before.before.before.args in
-    (all_on (λ (i : ℕ). run (pair_rule (guide_of args.book.now) i args.line)) loop.earlier loop.left loop-test.true (sym c.before.is-pair-good.ensures ∙ not_false _ c.if2.false) ∙ loop.invariant.0, omega (arith, loop.invariant.1), omega (arith, loop.invariant.2))
+    (all_on (λ (i : ℕ). run (pair_rule (guide_of args.book.now) i args.line)) loop.earlier loop.left loop-test.true (sym c.before.is-pair-good.ensures ∙ not-false _ c.if2.false) ∙ loop.invariant.0, omega (arith, loop.invariant.1), omega (arith, loop.invariant.2))
 
 returns-3 : tie.Need-returns-3 invariant-loop decreases-loop
 unfolding home_rule

@@ -3,7 +3,7 @@ use Prim.Native.Nat.{ℕ, ◌+◌, ◌≤◌}
 use native.Mathlib.Omega.{arith}
 use mathlib.Core.Path.{◌≡◌, sym, ap, ◌∙◌}
 use borrow.Author.Rules.{rules}
-use borrow.Author.Tests.{not-true, not_false}
+use borrow.Author.Tests.{not-true, not-false}
 use Rattle.book.specs.method.Each.{home_rule}
 use Rattle.guide.specs.meaning.Guide.{guide_of}
 use Rattle.book.specs.method.Run.{run, all}
@@ -57,7 +57,7 @@ loop-again c =
     let loop-test = c.before.before.before.loop-test in
     let loop = c.before.before.before.before.loop in
     let args = c.before.before.before.before.before.before.before.before.args in
-    (all_on (λ (i : ℕ). run (home_rule (guide_of args.book.now) i)) loop.line loop.left loop-test.true (sym c.before.has-one-home.ensures ∙ not_false _ c.if1.false) ∙ loop.invariant.0, omega (arith, loop.invariant.1), omega (arith, loop.invariant.2))
+    (all_on (λ (i : ℕ). run (home_rule (guide_of args.book.now) i)) loop.line loop.left loop-test.true (sym c.before.has-one-home.ensures ∙ not-false _ c.if1.false) ∙ loop.invariant.0, omega (arith, loop.invariant.1), omega (arith, loop.invariant.2))
 
 returns-2 : tie.Need-returns-2 invariant-loop decreases-loop
 returns-2 c =

@@ -4,7 +4,7 @@ use native.Mathlib.Omega.{arith}
 use mathlib.Core.Path.{sym, ◌∙◌}
 use lib.ListN.{length}
 use borrow.Author.Rules.{rules}
-use borrow.Author.Tests.{not-true, not_false}
+use borrow.Author.Tests.{not-true, not-false}
 use Rattle.guide.specs.meaning.Guide.{guide_of}
 use Rattle.fields.proofs.Cutting.{reads_inside}
 use Rattle.fields.proofs.Stepping.{Going, going_begin, going-broken, going_on, going-closed}
@@ -70,20 +70,20 @@ returns-2 c =
 add-component : tie.Need-overflow-add-component invariant-loop decreases-loop
 add-component c =
     let read-component = c.before.before.before.before.before.before.before.read-component in
-    let n = reads_inside read-component.ensures c.before.opens-component.ensures (not_false _ c.if1.false) in
+    let n = reads_inside read-component.ensures c.before.opens-component.ensures (not-false _ c.if1.false) in
     let m = c.before.before.before.before.before.before.before.before.loop.invariant.counted in
     omega (arith, n, m)
 
 add_start : tie.Need-overflow-add-start invariant-loop decreases-loop
 add_start c =
     let read-component = c.before.before.before.before.before.before.before.read-component in
-    let n = reads_inside read-component.ensures c.before.opens-component.ensures (not_false _ c.if1.false) in
+    let n = reads_inside read-component.ensures c.before.opens-component.ensures (not-false _ c.if1.false) in
     omega (arith, n)
 
 loop-less : tie.Need-loop-smaller invariant-loop decreases-loop
 loop-less c =
     let read-component = c.before.before.before.before.before.before.before.read-component in
-    let n = reads_inside read-component.ensures c.before.opens-component.ensures (not_false _ c.if1.false) in
+    let n = reads_inside read-component.ensures c.before.opens-component.ensures (not-false _ c.if1.false) in
     omega (arith, n)
 
 loop-again : tie.Need-loop-preserved invariant-loop decreases-loop
@@ -93,7 +93,7 @@ loop-again c =
     let loop = c.before.before.before.before.before.before.before.before.loop in
     let read-component = c.before.before.before.before.before.before.before.read-component in
     let args = c.before.before.before.before.before.before.before.before.before.before.before.args in
-    going_on args.service (guide_of args.book.now) args.message.now args.from args.some args.element args.first args.last loop.component loop.start loop.field loop.invariant _ read-component.ensures _ test-component.ensures _ next.given.1 (sym c.before.opens-component.ensures ∙ not_false _ c.if1.false)
+    going_on args.service (guide_of args.book.now) args.message.now args.from args.some args.element args.first args.last loop.component loop.start loop.field loop.invariant _ read-component.ensures _ test-component.ensures _ next.given.1 (sym c.before.opens-component.ensures ∙ not-false _ c.if1.false)
 
 pub test-components-spec : {M : Type 1} → statement M
 test-components-spec =

@@ -4,7 +4,7 @@ use native.Mathlib.Omega.{arith}
 use mathlib.Core.Path.{refl, sym, ◌∙◌}
 use lib.ListN.{length}
 use borrow.Author.Rules.{rules}
-use borrow.Author.Tests.{not-true, not_false}
+use borrow.Author.Tests.{not-true, not-false}
 use Rattle.guide.specs.meaning.Guide.{guide_of}
 use Rattle.fields.proofs.Stepping.{Passing, passing_begin, passing-inside, passing-broken, passing-later, passing-on, passing_done}
 use Rattle.fields.proofs.fault.find_fault.Statement.{statement}
@@ -55,19 +55,19 @@ add-element : tie.Need-overflow-add-element invariant-loop decreases-loop
 add-element c =
     let loop = c.before.before.loop in
     let args = c.before.before.before.before.before.before.before.before.before.args in
-    let n = passing-inside args.service (guide_of args.book.now) args.message.now args.at args.line _ loop.element loop.end loop.field loop.invariant.0 (sym c.before.opens-element.ensures ∙ not_false _ c.if1.false) in let m = loop.invariant.0.counted in omega arith
+    let n = passing-inside args.service (guide_of args.book.now) args.message.now args.at args.line _ loop.element loop.end loop.field loop.invariant.0 (sym c.before.opens-element.ensures ∙ not-false _ c.if1.false) in let m = loop.invariant.0.counted in omega arith
 
 add-test-element : tie.Need-overflow-add-test-element invariant-loop decreases-loop
 add-test-element c =
     let loop = c.before.before.loop in
     let args = c.before.before.before.before.before.before.before.before.before.args in
-    let n = passing-inside args.service (guide_of args.book.now) args.message.now args.at args.line _ loop.element loop.end loop.field loop.invariant.0 (sym c.before.opens-element.ensures ∙ not_false _ c.if1.false) in omega arith
+    let n = passing-inside args.service (guide_of args.book.now) args.message.now args.at args.line _ loop.element loop.end loop.field loop.invariant.0 (sym c.before.opens-element.ensures ∙ not-false _ c.if1.false) in omega arith
 
 test-element-requires : tie.Need-test-element-requires invariant-loop decreases-loop
 test-element-requires c κs =
     let loop = c.before.before.loop in
     let args = c.before.before.before.before.before.before.before.before.before.args in
-    let n = passing-inside args.service (guide_of args.book.now) args.message.now args.at args.line _ loop.element loop.end loop.field loop.invariant.0 (sym c.before.opens-element.ensures ∙ not_false _ c.if1.false) in (omega arith, loop.invariant.0.few, loop.invariant.1)
+    let n = passing-inside args.service (guide_of args.book.now) args.message.now args.at args.line _ loop.element loop.end loop.field loop.invariant.0 (sym c.before.opens-element.ensures ∙ not-false _ c.if1.false) in (omega arith, loop.invariant.0.few, loop.invariant.1)
 
 enum-known-component : tie.Need-enum-known-component invariant-loop decreases-loop
 enum-known-component c = search rules
@@ -79,7 +79,7 @@ returns-2 c =
     let loop = c.before.before.before.before.before.before.loop in
     let opens-element = c.before.before.before.before.before.opens-element in
     let args = c.before.before.before.before.before.before.before.before.before.before.before.before.before.args in
-    passing-broken args.service (guide_of args.book.now) args.message.now args.at args.line _ loop.element loop.end loop.field loop.invariant.0 (sym opens-element.ensures ∙ not_false _ if1.false) _ test-element.ensures _ c.before.component.given.1
+    passing-broken args.service (guide_of args.book.now) args.message.now args.at args.line _ loop.element loop.end loop.field loop.invariant.0 (sym opens-element.ensures ∙ not-false _ if1.false) _ test-element.ensures _ c.before.component.given.1
 
 enum-known-closed : tie.Need-enum-known-closed invariant-loop decreases-loop
 enum-known-closed c = search rules
@@ -91,7 +91,7 @@ loop-less c =
     let loop = c.before.before.before.before.before.before.loop in
     let opens-element = c.before.before.before.before.before.opens-element in
     let args = c.before.before.before.before.before.before.before.before.before.before.before.before.before.args in
-    let n = passing-later args.service (guide_of args.book.now) args.message.now args.at args.line _ loop.element loop.end loop.field loop.invariant.0 (sym opens-element.ensures ∙ not_false _ if1.false) _ test-element.ensures _ _ c.before.closed.given.1 in omega arith
+    let n = passing-later args.service (guide_of args.book.now) args.message.now args.at args.line _ loop.element loop.end loop.field loop.invariant.0 (sym opens-element.ensures ∙ not-false _ if1.false) _ test-element.ensures _ _ c.before.closed.given.1 in omega arith
 
 loop-again : tie.Need-loop-preserved invariant-loop decreases-loop
 loop-again c =
@@ -100,7 +100,7 @@ loop-again c =
     let loop = c.before.before.before.before.before.before.loop in
     let opens-element = c.before.before.before.before.before.opens-element in
     let args = c.before.before.before.before.before.before.before.before.before.before.before.before.before.args in
-    (passing-on args.service (guide_of args.book.now) args.message.now args.at args.line _ loop.element loop.end loop.field loop.invariant.0 (sym opens-element.ensures ∙ not_false _ if1.false) _ test-element.ensures _ _ c.before.closed.given.1, loop.invariant.1)
+    (passing-on args.service (guide_of args.book.now) args.message.now args.at args.line _ loop.element loop.end loop.field loop.invariant.0 (sym opens-element.ensures ∙ not-false _ if1.false) _ test-element.ensures _ _ c.before.closed.given.1, loop.invariant.1)
 
 pub find-fault-spec : {M : Type 1} → statement M
 find-fault-spec =

@@ -1,7 +1,7 @@
 -- `number::is_number` meets its contract: a sign is passed, then digits, then the rest is tested.
 use mathlib.Core.Path.{sym, ◌∙◌}
 use borrow.Author.Rules.{rules}
-use borrow.Author.Tests.{not-true, not_false}
+use borrow.Author.Tests.{not-true, not-false}
 use Rattle.fields.proofs.Counting.{number_not, number_by}
 use Rattle.fields.proofs.number.is_number.Statement.{statement}
 use Rattle.fields.proofs.number.is_number.Tie as tie
@@ -30,7 +30,7 @@ returns-2 c =
     let starts-digit = c.before.before.before.starts-digit in
     let skip-sign = c.before.before.before.before.skip-sign in
     let args = c.before.before.before.before.before.before.args in
-    number_by args.service args.part.now skip-sign.result c.before.skip-digits.result _ skip-sign.ensures.0 (sym starts-digit.ensures ∙ not_false _ if1.false) c.before.skip-digits.ensures.0 c.ends-number.ensures
+    number_by args.service args.part.now skip-sign.result c.before.skip-digits.result _ skip-sign.ensures.0 (sym starts-digit.ensures ∙ not-false _ if1.false) c.before.skip-digits.ensures.0 c.ends-number.ensures
 
 pub is-number-spec : {M : Type 1} → statement M
 is-number-spec =

@@ -4,7 +4,7 @@ use native.Mathlib.Omega.{arith}
 use mathlib.Core.Path.{◌≡◌, refl, sym, ◌∙◌}
 use lib.ListN.{length, drop}
 use borrow.Author.Rules.{rules}
-use borrow.Author.Tests.{not-true, not_false}
+use borrow.Author.Tests.{not-true, not-false}
 use Rattle.fields.specs.method.Number.{after_digits}
 use Rattle.fields.proofs.Counting.{digits_on, digits_stop, digits_out}
 use Rattle.fields.proofs.number.skip_digits.Statement.{statement}
@@ -43,7 +43,7 @@ loop-again c =
     let loop-test = c.before.before.before.loop-test in
     let loop = c.before.before.before.before.loop in
     let args = c.before.before.before.before.before.before.args in
-    (digits_on args.part.now loop.at loop-test.true (sym c.before.is_digit.ensures ∙ not_false _ c.if1.false) ∙ loop.invariant.0, omega (arith, loop-test.true))
+    (digits_on args.part.now loop.at loop-test.true (sym c.before.is_digit.ensures ∙ not-false _ c.if1.false) ∙ loop.invariant.0, omega (arith, loop-test.true))
 
 returns-2 : tie.Need-returns-2 invariant-loop decreases-loop
 returns-2 c = (digits_out c.before.before.before.args.part.now c.before.loop.at c.loop-test.false ∙ c.before.loop.invariant.0, c.before.loop.invariant.1)

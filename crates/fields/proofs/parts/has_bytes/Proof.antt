@@ -5,7 +5,7 @@ use mathlib.Core.Path.{◌≡◌, refl, sym, ap, ◌∙◌}
 use mathlib.Core.Bool.{false, not}
 use lib.ListN.{length, drop}
 use borrow.Author.Rules.{rules}
-use borrow.Author.Tests.{not-true, not_false}
+use borrow.Author.Tests.{not-true, not-false}
 use Rattle.fields.specs.method.Parts.{cut, components_in, any_bytes}
 use Rattle.fields.proofs.Cutting.{some_on, some_here, some_out}
 use Rattle.fields.proofs.parts.has_bytes.Statement.{statement}
@@ -53,7 +53,7 @@ loop-again c =
     let loop-test = c.before.before.before.before.loop-test in
     let loop = c.before.before.before.before.before.loop in
     let args = c.before.before.before.before.before.before.before.args in
-    some_on args.service args.message.now loop.position _ loop-test.true kind_of.ensures (sym c.before.is-component-mark.ensures ∙ not_false _ c.if1.false) ∙ loop.invariant
+    some_on args.service args.message.now loop.position _ loop-test.true kind_of.ensures (sym c.before.is-component-mark.ensures ∙ not-false _ c.if1.false) ∙ loop.invariant
 
 returns-2 : tie.Need-returns-2 invariant-loop decreases-loop
 returns-2 c =

@@ -4,7 +4,7 @@ use native.Mathlib.Omega.{arith}
 use mathlib.Core.Path.{sym, ◌∙◌}
 use lib.ListN.{length}
 use borrow.Author.Rules.{rules}
-use borrow.Author.Tests.{not-true, not_false}
+use borrow.Author.Tests.{not-true, not-false}
 use Rattle.fields.proofs.Cutting.{reads_inside, Skipping, skipping_begin, skipping_on, skipping_done}
 use Rattle.fields.proofs.parts.skip_to_element.Statement.{statement}
 use Rattle.fields.proofs.parts.skip_to_element.Tie as tie
@@ -34,13 +34,13 @@ returns c =
 add_start : tie.Need-overflow-add-start invariant-loop decreases-loop
 add_start c =
     let read-component = c.before.before.read-component in
-    let n = reads_inside read-component.ensures c.before.opens-component.ensures (not_false _ c.if1.false) in
+    let n = reads_inside read-component.ensures c.before.opens-component.ensures (not-false _ c.if1.false) in
     omega arith
 
 loop-less : tie.Need-loop-smaller invariant-loop decreases-loop
 loop-less c =
     let read-component = c.before.before.read-component in
-    let n = reads_inside read-component.ensures c.before.opens-component.ensures (not_false _ c.if1.false) in
+    let n = reads_inside read-component.ensures c.before.opens-component.ensures (not-false _ c.if1.false) in
     omega arith
 
 loop-again : tie.Need-loop-preserved invariant-loop decreases-loop
@@ -48,7 +48,7 @@ loop-again c =
     let loop = c.before.before.before.loop in
     let read-component = c.before.before.read-component in
     let args = c.before.before.before.before.before.args in
-    skipping_on args.service args.message.now args.from loop.start loop.invariant _ read-component.ensures (sym c.before.opens-component.ensures ∙ not_false _ c.if1.false)
+    skipping_on args.service args.message.now args.from loop.start loop.invariant _ read-component.ensures (sym c.before.opens-component.ensures ∙ not-false _ c.if1.false)
 
 pub skip-to-element-spec : {M : Type 1} → statement M
 skip-to-element-spec =

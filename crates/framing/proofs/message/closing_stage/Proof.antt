@@ -1,7 +1,7 @@
 -- `message::closing_stage` meets its contract: the parts that are compared are the components.
 use mathlib.Core.Path.{◌∙◌}
 use mathlib.Core.Bool.{true, false}
-use borrow.Author.Tests.{not-true, not_false}
+use borrow.Author.Tests.{not-true, not-false}
 use Rattle.framing.proofs.Messages.{closing_miscounted, closing_referred}
 use borrow.Author.Rules.{rules}
 use Rattle.framing.proofs.message.closing_stage.Statement.{statement}
@@ -44,7 +44,7 @@ returns-2 c =
     let is-decimal = c.before.before.before.before.before.before.is-decimal in
     let find_component = c.before.before.before.before.before.before.before.find_component in
     let args = c.before.before.before.before.before.before.before.before.before.args in
-    (c.answer2.ensures) ∙ closing_referred args.service args.message.now args.segments args.last _ _ find_component.ensures.bytes is-decimal.ensures _ _ _ false (not_false _ if1.false) find-component2.ensures.bytes find-component3.ensures.bytes same_component_lem.ensures (not-true _ (c.before.if2.true))
+    (c.answer2.ensures) ∙ closing_referred args.service args.message.now args.segments args.last _ _ find_component.ensures.bytes is-decimal.ensures _ _ _ false (not-false _ if1.false) find-component2.ensures.bytes find-component3.ensures.bytes same_component_lem.ensures (not-true _ (c.before.if2.true))
 
 answer-requires-3 : tie.Need-answer-requires-3
 answer-requires-3 c κs = search rules
@@ -58,7 +58,7 @@ returns-3 c =
     let is-decimal = c.before.before.before.before.before.before.is-decimal in
     let find_component = c.before.before.before.before.before.before.before.find_component in
     let args = c.before.before.before.before.before.before.before.before.before.args in
-    (c.answer3.ensures) ∙ closing_referred args.service args.message.now args.segments args.last _ _ find_component.ensures.bytes is-decimal.ensures _ _ _ true (not_false _ if1.false) find-component2.ensures.bytes find-component3.ensures.bytes same_component_lem.ensures (not_false _ (c.before.if2.false))
+    (c.answer3.ensures) ∙ closing_referred args.service args.message.now args.segments args.last _ _ find_component.ensures.bytes is-decimal.ensures _ _ _ true (not-false _ if1.false) find-component2.ensures.bytes find-component3.ensures.bytes same_component_lem.ensures (not-false _ (c.before.if2.false))
 
 pub closing-stage-spec : {M : Type 1} → statement M
 closing-stage-spec =

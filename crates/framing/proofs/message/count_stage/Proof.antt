@@ -1,7 +1,7 @@
 -- `message::count_stage` meets its contract.
 use mathlib.Core.Path.{ap, ◌∙◌}
 use mathlib.Core.Bool.{true, false}
-use borrow.Author.Tests.{not-true, not_false}
+use borrow.Author.Tests.{not-true, not-false}
 use Rattle.framing.specs.method.Stages.{frame_stage}
 use Rattle.framing.proofs.Messages.{count_high, count_low}
 use borrow.Author.Rules.{rules}
@@ -38,7 +38,7 @@ returns-3 c =
     let if1 = c.before.before.before.if1 in
     let pre = c.before.before.before.before.before.requires in
     let args = c.before.before.before.before.before.args in
-    c.frame-stage.ensures ∙ ap (frame_stage args.service args.message.now args.segments) (pre) ∙ count_low args.service args.message.now args.room args.segments _ true if1.false has_room.ensures (not_false _ c.before.if2.false)
+    c.frame-stage.ensures ∙ ap (frame_stage args.service args.message.now args.segments) (pre) ∙ count_low args.service args.message.now args.room args.segments _ true if1.false has_room.ensures (not-false _ c.before.if2.false)
 
 pub count-stage-spec : {M : Type 1} → statement M
 count-stage-spec =

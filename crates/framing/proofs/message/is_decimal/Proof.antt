@@ -1,6 +1,6 @@
 -- `message::is_decimal` meets its contract.
 use mathlib.Core.Path.{sym, ◌∙◌}
-use borrow.Author.Tests.{not-true, not_false}
+use borrow.Author.Tests.{not-true, not-false}
 use borrow.Author.Rules.{rules}
 use Rattle.framing.proofs.message.is_decimal.Statement.{statement}
 use Rattle.framing.proofs.message.is_decimal.Tie as tie
@@ -15,7 +15,7 @@ makes-requires : tie.Need-makes-requires
 makes-requires c κs = search rules
 
 returns-2 : tie.Need-returns-2
-returns-2 c = (c.makes.ensures) ∙ sym (simp (sym (c.before.before.leads-well.ensures) ∙ not_false _ (c.before.if1.false)))
+returns-2 c = (c.makes.ensures) ∙ sym (simp (sym (c.before.before.leads-well.ensures) ∙ not-false _ (c.before.if1.false)))
 
 pub is-decimal-spec : {M : Type 1} → statement M
 is-decimal-spec = tie.close (tie.spec leads-well-requires returns makes-requires returns-2)

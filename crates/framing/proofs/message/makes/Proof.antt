@@ -5,7 +5,7 @@ use native.Mathlib.Omega.{arith}
 use mathlib.Core.Path.{sym, ◌∙◌}
 use lib.ListN.{length}
 use borrow.Author.Rules.{rules}
-use borrow.Author.Tests.{not-true, not_false}
+use borrow.Author.Tests.{not-true, not-false}
 use Rattle.framing.proofs.Decimals.{Making, digit_range, making_begin, making_no_digit, making_high, making_on, making_done}
 use Rattle.framing.proofs.message.makes.Statement.{statement}
 use Rattle.framing.proofs.message.makes.Tie as tie
@@ -41,23 +41,23 @@ mul-made c =
     omega (arith, loop.invariant.low, fits.number)
 
 sub-made : tie.Need-overflow-sub-made invariant-loop decreases-loop
-sub-made c = omega (arith, (digit_range _ (sym (not_false _ (c.if1.false)) ∙ (c.before.is_digit.ensures))).0)
+sub-made c = omega (arith, (digit_range _ (sym (not-false _ (c.if1.false)) ∙ (c.before.is_digit.ensures))).0)
 
 cast-made : tie.Need-overflow-cast-made invariant-loop decreases-loop
-cast-made c = omega (arith, (digit_range _ (sym (not_false _ (c.if1.false)) ∙ (c.before.is_digit.ensures))).1)
+cast-made c = omega (arith, (digit_range _ (sym (not-false _ (c.if1.false)) ∙ (c.before.is_digit.ensures))).1)
 
 add-made : tie.Need-overflow-add-made invariant-loop decreases-loop
 add-made c =
     let loop = c.before.before.before.before.loop in
     let fits = c.before.before.before.before.before.before.ranges in
-    omega (arith, (digit_range _ (sym (not_false _ (c.if1.false)) ∙ (c.before.is_digit.ensures))).1, loop.invariant.low, fits.number)
+    omega (arith, (digit_range _ (sym (not-false _ (c.if1.false)) ∙ (c.before.is_digit.ensures))).1, loop.invariant.low, fits.number)
 
 returns-2 : tie.Need-returns-2 invariant-loop decreases-loop
 returns-2 c =
     let is_digit = c.before.before.is_digit in
     let loop-test = c.before.before.before.before.loop-test in
     let loop = c.before.before.before.before.before.loop in
-    making_high _ _ _ _ loop.invariant loop-test.true (sym (not_false _ (c.before.if1.false)) ∙ is_digit.ensures) (c.if2.true)
+    making_high _ _ _ _ loop.invariant loop-test.true (sym (not-false _ (c.before.if1.false)) ∙ is_digit.ensures) (c.if2.true)
 
 loop-less : tie.Need-loop-smaller invariant-loop decreases-loop
 loop-less c = omega arith
@@ -67,7 +67,7 @@ loop-again c =
     let is_digit = c.before.before.is_digit in
     let loop-test = c.before.before.before.before.loop-test in
     let loop = c.before.before.before.before.before.loop in
-    making_on _ _ _ _ loop.invariant loop-test.true (sym (not_false _ (c.before.if1.false)) ∙ is_digit.ensures) (c.if2.false)
+    making_on _ _ _ _ loop.invariant loop-test.true (sym (not-false _ (c.before.if1.false)) ∙ is_digit.ensures) (c.if2.false)
 
 returns-3 : tie.Need-returns-3 invariant-loop decreases-loop
 returns-3 c = making_done _ _ _ _ (c.before.loop.invariant) (c.loop-test.false)

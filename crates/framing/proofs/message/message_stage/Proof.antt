@@ -1,7 +1,7 @@
 -- `message::message_stage` meets its contract. A bad place lies within the message, so it fits.
 use native.Mathlib.Omega.{arith}
 use mathlib.Core.Path.{sym, ◌∙◌}
-use borrow.Author.Tests.{not-true, not_false}
+use borrow.Author.Tests.{not-true, not-false}
 use Rattle.framing.proofs.Frames.{survey_bad, survey_good}
 use Rattle.framing.proofs.Messages.{bad_within, sized_within, message_unsized, message_scanned}
 use borrow.Author.Rules.{rules}
@@ -21,7 +21,7 @@ returns c =
     c.answer.ensures ∙ message_unsized args.service args.message.now args.room _ (not-true _ c.before.if1.true) is-sized.ensures
 
 make-survey-requires : tie.Need-make-survey-requires
-make-survey-requires c κs = sized_within c.before.before.before.args.message.now (sym c.before.is-sized.ensures ∙ not_false _ c.if1.false)
+make-survey-requires c κs = sized_within c.before.before.before.args.message.now (sym c.before.is-sized.ensures ∙ not-false _ c.if1.false)
 
 enum-known-place : tie.Need-enum-known-place
 enum-known-place c = search rules
@@ -32,7 +32,7 @@ cast-answer c =
     let if1 = c.before.before.before.before.if1 in
     let is-sized = c.before.before.before.before.before.is-sized in
     let args = c.before.before.before.before.before.before.before.args in
-    let w = bad_within args.service args.message.now _ (sym (survey_bad args.service args.message.now _ (sym c.before.place.given.1 ∙ make-survey.ensures))) in let h = sized_within args.message.now (sym is-sized.ensures ∙ not_false _ if1.false) in omega arith
+    let w = bad_within args.service args.message.now _ (sym (survey_bad args.service args.message.now _ (sym c.before.place.given.1 ∙ make-survey.ensures))) in let h = sized_within args.message.now (sym is-sized.ensures ∙ not-false _ if1.false) in omega arith
 
 answer-requires-2 : tie.Need-answer-requires-2
 answer-requires-2 c κs = search rules
@@ -53,7 +53,7 @@ returns-2 c =
     let make-survey = c.before.before.before.before.make-survey in
     let is-sized = c.before.before.before.before.before.before.is-sized in
     let args = c.before.before.before.before.before.before.before.before.args in
-    c.answer2.ensures ∙ message_scanned args.service args.message.now args.room _ _ (not_false _ if1.false) is-sized.ensures (survey_bad args.service args.message.now _ (sym place.given.1 ∙ make-survey.ensures))
+    c.answer2.ensures ∙ message_scanned args.service args.message.now args.room _ _ (not-false _ if1.false) is-sized.ensures (survey_bad args.service args.message.now _ (sym place.given.1 ∙ make-survey.ensures))
 
 returns-3 : tie.Need-returns-3
 returns-3 c =
@@ -62,7 +62,7 @@ returns-3 c =
     let make-survey = c.before.before.before.before.make-survey in
     let is-sized = c.before.before.before.before.before.before.is-sized in
     let args = c.before.before.before.before.before.before.before.before.args in
-    c.count-stage.ensures ∙ message_scanned args.service args.message.now args.room _ _ (not_false _ if1.false) is-sized.ensures (survey_good args.service args.message.now _ _ (sym segments.given.1 ∙ make-survey.ensures)).0
+    c.count-stage.ensures ∙ message_scanned args.service args.message.now args.room _ _ (not-false _ if1.false) is-sized.ensures (survey_good args.service args.message.now _ _ (sym segments.given.1 ∙ make-survey.ensures)).0
 
 pub message-stage-spec : {M : Type 1} → statement M
 message-stage-spec =

@@ -1,7 +1,7 @@
 -- `refusing::conditions_stage` meets its contract.
 use mathlib.Core.Path.{◌∙◌}
 use mathlib.Core.Bool.{true, false}
-use borrow.Author.Tests.{not-true, not_false}
+use borrow.Author.Tests.{not-true, not-false}
 use Rattle.guide.specs.meaning.Guide.{guide_of}
 use Rattle.judging.proofs.Refusals.{conditions_many, conditions_known}
 use borrow.Author.Rules.{rules}
@@ -46,7 +46,7 @@ returns-3 c =
     let if1 = c.before.before.before.if1 in
     let conditions = c.before.before.before.before.conditions in
     let args = c.before.before.before.before.before.before.before.args in
-    (c.answer3.ensures) ∙ conditions_known args.conditions.now (guide_of args.book.now) _ conditions.ensures.0 _ true if1.false are_truth_values.ensures (not_false _ (c.before.if2.false))
+    (c.answer3.ensures) ∙ conditions_known args.conditions.now (guide_of args.book.now) _ conditions.ensures.0 _ true if1.false are_truth_values.ensures (not-false _ (c.before.if2.false))
 
 pub conditions-stage-spec : {M : Type 1} → statement M
 conditions-stage-spec =

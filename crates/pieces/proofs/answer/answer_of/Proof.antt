@@ -1,6 +1,6 @@
 -- `answer::answer_of` meets its contract, case by case.
 use mathlib.Core.Path.{sym, ap, ◌∙◌}
-use borrow.Author.Tests.{not-true, not_false}
+use borrow.Author.Tests.{not-true, not-false}
 use Rattle.slices.specs.method.Entries.{entry}
 use Rattle.framing.specs.meaning.Record.{answer}
 use Rattle.pieces.proofs.Answers.{answer_none, answer_over, answer_bad, answer-many, answer-lacking, answer-good}
@@ -39,7 +39,7 @@ answer-requires-4 : tie.Need-answer-requires-4
 answer-requires-4 c κs = search rules
 
 returns-4 : tie.Need-returns-4
-returns-4 c = c.answer4.ensures ∙ answer-many _ c.before.before.before.before.before.before.before.if1.false c.before.before.before.before.before.if2.false (sym c.before.before.before.before.is-complete.ensures ∙ not_false _ c.before.before.before.if3.false) c.before.if4.true
+returns-4 c = c.answer4.ensures ∙ answer-many _ c.before.before.before.before.before.before.before.if1.false c.before.before.before.before.before.if2.false (sym c.before.before.before.before.is-complete.ensures ∙ not-false _ c.before.before.before.if3.false) c.before.if4.true
 
 entry-of-requires-2 : tie.Need-entry-of-requires-2
 entry-of-requires-2 c κs = search rules
@@ -48,7 +48,7 @@ answer-requires-5 : tie.Need-answer-requires-5
 answer-requires-5 c κs = search rules
 
 returns-5 : tie.Need-returns-5
-returns-5 c = c.answer5.ensures ∙ ap (answer 6) c.before.entry-of2.ensures ∙ answer-lacking _ c.before.before.before.before.before.before.before.before.before.if1.false c.before.before.before.before.before.before.before.if2.false (sym c.before.before.before.before.before.before.is-complete.ensures ∙ not_false _ c.before.before.before.before.before.if3.false) c.before.before.before.if4.false c.before.before.if5.true
+returns-5 c = c.answer5.ensures ∙ ap (answer 6) c.before.entry-of2.ensures ∙ answer-lacking _ c.before.before.before.before.before.before.before.before.before.if1.false c.before.before.before.before.before.before.before.if2.false (sym c.before.before.before.before.before.before.is-complete.ensures ∙ not-false _ c.before.before.before.before.before.if3.false) c.before.before.before.if4.false c.before.before.if5.true
 
 entry-of-requires-3 : tie.Need-entry-of-requires-3
 entry-of-requires-3 c κs = search rules
@@ -57,7 +57,7 @@ answer-requires-6 : tie.Need-answer-requires-6
 answer-requires-6 c κs = search rules
 
 returns-6 : tie.Need-returns-6
-returns-6 c = c.answer6.ensures ∙ ap (answer 0) c.before.entry-of3.ensures ∙ answer-good _ c.before.before.before.before.before.before.before.before.before.if1.false c.before.before.before.before.before.before.before.if2.false (sym c.before.before.before.before.before.before.is-complete.ensures ∙ not_false _ c.before.before.before.before.before.if3.false) c.before.before.before.if4.false c.before.before.if5.false
+returns-6 c = c.answer6.ensures ∙ ap (answer 0) c.before.entry-of3.ensures ∙ answer-good _ c.before.before.before.before.before.before.before.before.before.if1.false c.before.before.before.before.before.before.before.if2.false (sym c.before.before.before.before.before.before.is-complete.ensures ∙ not-false _ c.before.before.before.before.before.if3.false) c.before.before.before.if4.false c.before.before.if5.false
 
 pub answer-of-spec : {M : Type 1} → statement M
 answer-of-spec =

@@ -3,7 +3,7 @@ use Prim.Native.Nat.{◌+◌, ◌-◌}
 use native.Mathlib.Omega.{arith}
 use mathlib.Core.Path.{sym, ◌∙◌}
 use lib.ListN.{length}
-use borrow.Author.Tests.{not_false}
+use borrow.Author.Tests.{not-false}
 use Rattle.pieces.proofs.Passing.{OverData, data_begin, over_text, released_there, over_released}
 use borrow.Author.Rules.{rules}
 use Rattle.pieces.proofs.piece.pass_data.Statement.{statement}
@@ -22,7 +22,7 @@ returns : tie.Need-returns invariant-loop decreases-loop
 returns c = data_begin _ _ _ _
 
 loop-holds : tie.Need-loop-init invariant-loop decreases-loop
-loop-holds c = (sym c.before.is_held_lem.ensures ∙ not_false _ c.if1.false, data_begin _ _ _ _)
+loop-holds c = (sym c.before.is_held_lem.ensures ∙ not-false _ c.if1.false, data_begin _ _ _ _)
 
 shared-slice-read-byte : tie.Need-shared-slice-read-byte invariant-loop decreases-loop
 shared-slice-read-byte c = omega (arith, c.before.loop-test.true)
@@ -55,13 +55,13 @@ returns-3 : tie.Need-returns-3 invariant-loop decreases-loop
 returns-3 c = c.before.before.before.before.before.before.before.before.loop.invariant.1
 
 add-at-2 : tie.Need-overflow-add-at-2 invariant-loop decreases-loop
-add-at-2 c = let t = (released_there c.before.before.before.before.before.before.before.before.before.before.before.before.args.service c.before.before.before.before.before.before.before.before.before.before.before.before.args.piece.now (c.before.before.before.before.before.before.before.before.loop.at + 1) (sym c.before.is_released.ensures ∙ not_false _ c.if4.false)).0 in omega arith
+add-at-2 c = let t = (released_there c.before.before.before.before.before.before.before.before.before.before.before.before.args.service c.before.before.before.before.before.before.before.before.before.before.before.before.args.piece.now (c.before.before.before.before.before.before.before.before.loop.at + 1) (sym c.before.is_released.ensures ∙ not-false _ c.if4.false)).0 in omega arith
 
 loop-less-2 : tie.Need-loop-smaller-2 invariant-loop decreases-loop
 loop-less-2 c = omega (arith, c.before.before.before.before.before.before.before.loop-test.true)
 
 loop-again-2 : tie.Need-loop-preserved-2 invariant-loop decreases-loop
-loop-again-2 c = over_released _ _ _ _ _ _ c.before.before.before.before.before.before.before.before.loop.invariant c.before.before.before.before.before.before.before.loop-test.true c.before.before.if3.false (sym c.before.is_released.ensures ∙ not_false _ c.if4.false)
+loop-again-2 c = over_released _ _ _ _ _ _ c.before.before.before.before.before.before.before.before.loop.invariant c.before.before.before.before.before.before.before.loop-test.true c.before.before.if3.false (sym c.before.is_released.ensures ∙ not-false _ c.if4.false)
 
 returns-4 : tie.Need-returns-4 invariant-loop decreases-loop
 returns-4 c = c.before.loop.invariant.1

@@ -1,7 +1,7 @@
 -- `tree::open_instance` meets its contract: only a trigger opens an instance, and only within the eight depths.
 use mathlib.Core.Path.{◌∙◌}
 use lib.ListN.{length-set}
-use borrow.Author.Tests.{not-true, not_false}
+use borrow.Author.Tests.{not-true, not-false}
 use borrow.Author.Rules.{rules}
 use Rattle.guide.specs.meaning.Plan.{plan_in}
 use Rattle.placing.proofs.Steps.{open_not, open_here, open_too_deep}
@@ -35,7 +35,7 @@ returns-2 c =
     let is-trigger = c.before.before.before.is-trigger in
     let pre = c.before.before.before.before.before.requires in
     let args = c.before.before.before.before.before.args in
-    (open_here (plan_in args.book.now) args.trail.triggers args.home args.number _ _ is-trigger.ensures (not_false _ if1.false) c.before.target-depth.ensures.0, length-set args.trail.triggers _ _ ∙ (pre))
+    (open_here (plan_in args.book.now) args.trail.triggers args.home args.number _ _ is-trigger.ensures (not-false _ if1.false) c.before.target-depth.ensures.0, length-set args.trail.triggers _ _ ∙ (pre))
 
 returns-3 : tie.Need-returns-3
 returns-3 c =

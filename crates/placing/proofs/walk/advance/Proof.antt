@@ -4,7 +4,7 @@ use native.Mathlib.Omega.{arith}
 use mathlib.Core.Path.{refl, ap}
 use mathlib.Core.Bool.{false}
 use mathlib.Core.List.{List, ◌++◌}
-use borrow.Author.Tests.{not-true, not_false}
+use borrow.Author.Tests.{not-true, not-false}
 use borrow.Author.Rules.{rules}
 use Rattle.guide.specs.meaning.Plan.{plan_in}
 use Rattle.guide.proofs.WideNumbers.{maximum_small}
@@ -94,7 +94,7 @@ returns-4 c =
     let args = c.before.before.before.before.before.before.before.before.before.before.before.before.before.before.args in
     stands_next (plan_in args.book.now) args.walk _ args.home _ (c.refusal4.ensures args.walk pre.0)
     (advance_no (plan_in args.book.now) (open_lines args.walk) args.home _ _
-    target-of.ensures.0 (admits_shut (plan_in args.book.now) args.walk _ _ pre.0 depth_of.ensures.0 _ _ _ if2.false level-at.ensures can-move.ensures (not_false _ if3.false) closes-below.ensures)
+    target-of.ensures.0 (admits_shut (plan_in args.book.now) args.walk _ _ pre.0 depth_of.ensures.0 _ _ _ if2.false level-at.ensures can-move.ensures (not-false _ if3.false) closes-below.ensures)
     (not-true _ c.before.if4.true))
 
 raise-requires : tie.Need-raise-requires
@@ -106,7 +106,7 @@ raise-requires c κs =
     let shared-slice-known = c.before.before.before.before.before.before.before.before.before.before.before.before.shared-slice-known in
     λ e. omega (
       arith,
-      move_room (plan_in args.book.now) _ _ _ can-move.ensures (not_false _ if3.false) e,
+      move_room (plan_in args.book.now) _ _ _ can-move.ensures (not-false _ if3.false) e,
       maximum_small args.book.now (λ (k : ℕ). omega (arith, shared-slice-known.given k)) target-of.result,
     )
 
@@ -131,8 +131,8 @@ returns-5 c =
     stands_next (plan_in args.book.now) args.walk _ args.home _ (c.move-to.ensures args.walk pre.0 (omega (arith, if2.false)))
     (advance_yes (plan_in args.book.now) (open_lines args.walk) _ args.home _ _ _
     (in_depths (plan_in args.book.now) args.home _ _ _ _ pre.1 target-of.ensures.0 depth_of.ensures.0 is-trigger.ensures depths-for.ensures if1.false)
-    target-of.ensures.0 (admits_shut (plan_in args.book.now) args.walk _ _ pre.0 depth_of.ensures.0 _ _ _ if2.false level-at.ensures can-move.ensures (not_false _ if3.false) closes-below.ensures)
-    (not_false _ if4.false) is-trigger.ensures (ap (λ (x : List Level). x ++ entered is-trigger.result args.home)
+    target-of.ensures.0 (admits_shut (plan_in args.book.now) args.walk _ _ pre.0 depth_of.ensures.0 _ _ _ if2.false level-at.ensures can-move.ensures (not-false _ if3.false) closes-below.ensures)
+    (not-false _ if4.false) is-trigger.ensures (ap (λ (x : List Level). x ++ entered is-trigger.result args.home)
     (stacked_is (plan_in args.book.now) args.walk _ _ _ _ depth_of.ensures.0 if2.false level-at.ensures c.before.raise.ensures)))
 
 pub advance-spec : {M : Type 1} → statement M

@@ -3,7 +3,7 @@ use Prim.Native.Nat.{◌-◌}
 use native.Mathlib.Omega.{arith}
 use mathlib.Core.Path.{◌≡◌, refl, sym, ◌∙◌}
 use lib.ListN.{drop}
-use borrow.Author.Tests.{not-true, not_false}
+use borrow.Author.Tests.{not-true, not-false}
 use borrow.Author.Rules.{rules}
 use Rattle.guide.specs.meaning.Plan.{plan_in}
 use Rattle.placing.specs.method.Walking.{can_close_all, open_lines}
@@ -52,7 +52,7 @@ loop-again c =
     let loop = c.before.before.before.before.loop in
     let pre = c.before.before.before.before.before.before.requires in
     let args = c.before.before.before.before.before.before.args in
-    shut_on (plan_in args.book.now) args.t2 loop.at _ _ pre.0 loop-test.true refl c.before.can-close.ensures (not_false _ c.if1.false) ∙ loop.invariant
+    shut_on (plan_in args.book.now) args.t2 loop.at _ _ pre.0 loop-test.true refl c.before.can-close.ensures (not-false _ c.if1.false) ∙ loop.invariant
 
 returns-2 : tie.Need-returns-2 invariant-loop decreases-loop
 returns-2 c =

@@ -5,7 +5,7 @@ use native.Mathlib.Omega.{arith}
 use mathlib.Core.Path.{◌≡◌, refl, sym, ◌∙◌}
 use lib.ListN.{length}
 use borrow.Author.Rules.{rules}
-use borrow.Author.Tests.{not-true, not_false}
+use borrow.Author.Tests.{not-true, not-false}
 use Rattle.guide.specs.meaning.Guide.{guide_of}
 use Rattle.rules.specs.method.Scanning.{scanned_from}
 use Rattle.rules.specs.declared.finding.Finding.TheVariants.{Kept}
@@ -91,7 +91,7 @@ loop-again c =
     let watch-line = c.before.before.before.before.before.before.before.watch-line in
     let rows = c.before.before.before.before.before.before.before.before.before.rows in
     let args = c.before.before.before.before.before.before.before.before.before.before.before.before.before.before.args in
-    (loop.invariant.0, instance_kept watch-line.result (rows.line + 1) args.homes.now (found_behind (guide_of args.book.now) args.identifier args.conditions.now args.homes.now (rows.line + 1)) loop.instance lap-of.result report.result loop-test.true lap-of.ensures.0 report.ensures (sym c.before.is-kept.ensures ∙ not_false _ c.if1.false) ∙ loop.invariant.1)
+    (loop.invariant.0, instance_kept watch-line.result (rows.line + 1) args.homes.now (found_behind (guide_of args.book.now) args.identifier args.conditions.now args.homes.now (rows.line + 1)) loop.instance lap-of.result report.result loop-test.true lap-of.ensures.0 report.ensures (sym c.before.is-kept.ensures ∙ not-false _ c.if1.false) ∙ loop.invariant.1)
 
 returns : tie.Need-returns invariant-loop decreases-loop invariant-rows decreases-rows
 returns c =

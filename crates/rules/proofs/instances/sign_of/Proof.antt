@@ -1,5 +1,5 @@
 -- `instances::sign_of` meets its contract: by the line's kind. Assumes nothing.
-use native.Mathlib.Numerals.{add_one}
+use native.Mathlib.Numerals.{add-one}
 use borrow.Author.Tests.{eq-eqb, ne_eqb}
 use borrow.Author.Rules.{rules}
 use Rattle.guide.specs.meaning.Words.{group_kind}
@@ -13,7 +13,7 @@ add-result : tie.Need-overflow-add-result
 add-result c = search rules
 
 returns : tie.Need-returns
-returns c = simp (← c.before.kind.ensures.0, eq-eqb c.before.kind.result group_kind c.if1.true) (add_one c.before.before.before.args.line)
+returns c = simp (← c.before.kind.ensures.0, eq-eqb c.before.kind.result group_kind c.if1.true) (add-one c.before.before.before.args.line)
 
 returns-2 : tie.Need-returns-2
 returns-2 c = simp (← c.before.kind.ensures.0, ne_eqb c.before.kind.result group_kind c.if1.false)

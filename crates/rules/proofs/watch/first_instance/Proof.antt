@@ -1,6 +1,6 @@
 -- `watch::first_instance` meets its contract: from what its parts ensure. Assumes nothing.
 use mathlib.Core.Path.{ap}
-use native.Mathlib.Numerals.{add_one}
+use native.Mathlib.Numerals.{add-one}
 use lib.ListN.{length}
 use borrow.Author.Tests.{eq-eqb, ne_eqb}
 use Rattle.rules.specs.declared.instances.Lap.{Lap}
@@ -15,7 +15,7 @@ add-result : tie.Need-overflow-add-result
 add-result c = search rules
 
 returns : tie.Need-returns
-returns c = simp (← c.before.is-idle.ensures, c.if1.true) (add_one (length c.before.before.before.args.homes.now))
+returns c = simp (← c.before.is-idle.ensures, c.if1.true) (add-one (length c.before.before.before.args.homes.now))
 
 returns-2 : tie.Need-returns-2
 returns-2 c =
