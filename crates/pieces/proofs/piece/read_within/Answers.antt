@@ -1,0 +1,18 @@
+use mathlib.Core.Path.{sym, ◌∙◌}
+use Rattle.pieces.proofs.Passing.{along_begin, along_end, along_gone_on, along_failed, along_ended}
+use Rattle.pieces.proofs.piece.read_within.Goals as goal
+
+pub loop-at-init : goal.loop-at-init
+loop-at-init c = along_begin _ _ _ _
+
+pub returns-then-piece-stop : goal.returns-then-piece-stop
+returns-then-piece-stop c = along_gone_on _ _ _ _ c.requires _ _ _ c.loop-at.invariant _ c.next_stop-stop.ensures c.if-piece-stop.true _ c.go_on.ensures
+
+pub returns-then-is_dead : goal.returns-then-is_dead
+returns-then-is_dead c = along_failed _ _ _ _ c.requires _ _ _ c.loop-at.invariant _ c.next_stop-stop.ensures c.if-piece-stop.false (sym c.is_dead.ensures ∙ c.if-is_dead.true) _ c.fail_at.ensures
+
+pub loop-at-preserved : goal.loop-at-preserved
+loop-at-preserved c = along_ended _ _ _ _ c.requires _ _ _ c.loop-at.invariant _ c.next_stop-stop.ensures c.if-piece-stop.false (sym c.is_dead.ensures ∙ c.if-is_dead.false) _ c.put_start.ensures _ c.end_segment-come.ensures
+
+pub returns : goal.returns
+returns c = along_end _ _ _ _ _ _ _ c.loop-at.invariant c.loop-at-test.false
