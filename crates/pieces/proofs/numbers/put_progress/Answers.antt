@@ -1,7 +1,7 @@
 -- `numbers::put_progress` meets its contract: seven numbers put one after the other are as many of the seven as fit.
 use Prim.Native.Nat.{ℕ}
 use mathlib.Core.Path.{◌≡◌, refl, ap, ap₂, ◌∙◌}
-use mathlib.Core.List.{List, ◌∷◌}
+use mathlib.Core.List.{List, [], ◌∷◌}
 use Rattle.slices.specs.meaning.Lent.{as_many_as_fit}
 use Rattle.slices.proofs.Fitting.{puts_fit}
 use Rattle.pieces.specs.method.Numbers.{state_number, flag, numbers_of}

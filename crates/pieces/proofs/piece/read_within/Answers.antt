@@ -1,5 +1,6 @@
+use native.Mathlib.Omega.{arith}
 use mathlib.Core.Path.{sym, ◌∙◌}
-use Rattle.pieces.proofs.Passing.{along_begin, along_end, along_gone_on, along_failed, along_ended}
+use Rattle.pieces.proofs.Passing.{along_begin, along_end, along_stop, along_gone_on, along_failed, along_ended}
 use Rattle.pieces.proofs.piece.read_within.Goals as goal
 
 pub loop-at-init : goal.loop-at-init
@@ -10,6 +11,9 @@ returns-then-piece-stop c = along_gone_on _ _ _ _ c.requires _ _ _ c.loop-at.inv
 
 pub returns-then-is_dead : goal.returns-then-is_dead
 returns-then-is_dead c = along_failed _ _ _ _ c.requires _ _ _ c.loop-at.invariant _ c.next_stop-stop.ensures c.if-piece-stop.false (sym c.is_dead.ensures ∙ c.if-is_dead.true) _ c.fail_at.ensures
+
+pub loop-at-smaller : goal.loop-at-smaller
+loop-at-smaller c = omega (arith, c.if-piece-stop.false, (along_stop _ _ _ _ c.requires _ _ _ c.loop-at.invariant _ c.next_stop-stop.ensures).onward)
 
 pub loop-at-preserved : goal.loop-at-preserved
 loop-at-preserved c = along_ended _ _ _ _ c.requires _ _ _ c.loop-at.invariant _ c.next_stop-stop.ensures c.if-piece-stop.false (sym c.is_dead.ensures ∙ c.if-is_dead.false) _ c.put_start.ensures _ c.end_segment-come.ensures
