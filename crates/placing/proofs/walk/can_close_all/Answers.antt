@@ -10,7 +10,7 @@ returns-then-not-can_close c =
     let loop = c.loop-at in
     let pre = c.requires in
     let args = c.args in
-    sym (shut_stop (plan_in args.book.now) args.t2 loop.at _ _ pre.0 loop-test.true refl c.can_close.ensures c.if-not-can_close.true) ∙ loop.invariant
+    sym (shut_stop (plan_in args.book.now) args.walk loop.at _ _ pre.0 loop-test.true refl c.can_close.ensures c.if-not-can_close.true) ∙ loop.invariant
 
 pub overflow_add-at : goal.overflow_add-at
 overflow_add-at c =
@@ -24,10 +24,10 @@ loop-at-preserved c =
     let loop = c.loop-at in
     let pre = c.requires in
     let args = c.args in
-    shut_on (plan_in args.book.now) args.t2 loop.at _ _ pre.0 loop-test.true refl c.can_close.ensures c.if-not-can_close.false ∙ loop.invariant
+    shut_on (plan_in args.book.now) args.walk loop.at _ _ pre.0 loop-test.true refl c.can_close.ensures c.if-not-can_close.false ∙ loop.invariant
 
 pub returns : goal.returns
 returns c =
     let pre = c.requires in
     let args = c.args in
-    sym (shut_end (plan_in args.book.now) args.t2 c.loop-at.at pre.0 c.loop-at-test.false) ∙ c.loop-at.invariant
+    sym (shut_end (plan_in args.book.now) args.walk c.loop-at.at pre.0 c.loop-at-test.false) ∙ c.loop-at.invariant
