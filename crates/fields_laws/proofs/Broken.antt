@@ -45,6 +45,7 @@ among_in v (code ∷ codes) h = go (same_component v code) refl h (among_in v co
 
 in_among : (v : Component) (codes : List (List ℕ)) → In v codes → is_among v codes ≡ true
 unfolding is_among
+in_among v [] x' = elim x' [ ]
 in_among v (code ∷ codes) here = ap (λ (t : Bool). t || is_among v codes) (same_bytes_refl v)
 in_among v (code ∷ codes) (there i) = go (same_component v code) (in_among v codes i)
   where

@@ -97,6 +97,7 @@ Rises [] = Unit {0}
 Rises (f ∷ fs) = (1 ≤ f.element) × (1 ≤ f.component) × ((h : Field) → In h fs → Before f.element f.component h.element h.component) × Rises fs
 
 pub numbered : (fs : List Field) → Rises fs → (h : Field) → In h fs → (1 ≤ h.element) × (1 ≤ h.component)
+numbered [] r h x'' = elim x'' [ ]
 numbered (f ∷ fs) r h here = (r.0, r.1)
 numbered (f ∷ fs) r h (there i) = numbered fs r.3 h i
 

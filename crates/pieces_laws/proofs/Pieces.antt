@@ -2,7 +2,8 @@
 use Prim.Native.Nat.{ℕ}
 use mathlib.Core.Path.{refl, sym, ap, ap₂, ◌∙◌}
 use mathlib.Core.List.{List, []}
-use denote.Ref.{Bor}
+use denote.Bor.{Bor}
+use denote.MutBor.{MutBor}
 use Rattle.reading.specs.declared.service.Service.{Service}
 use Rattle.pieces.specs.meaning.Calls.{Left}
 use Rattle.pieces.specs.method.Calls.{answer_to_piece, numbers_after_piece, starts_after_piece, record_after_piece, answer_to_end, numbers_after_end, record_after_end}
@@ -35,6 +36,10 @@ module _ (state entries : List ℕ) (l : Left) (p : EndPromised state entries l)
 abbrev lent : List ℕ → Bor (List ℕ)
 lent xs = record { ref_ptr = (0, 0); now = xs }
 
+-- the same of a slice that the call may write
+abbrev lent_to_write : List ℕ → MutBor (List ℕ)
+lent_to_write xs = record { ref_ptr = (0, 0); ghost_name = 0; now = xs }
+
 piece_outcome : (s : Service) (state piece starts entries : List ℕ) → (l : Left) × (left : List ℕ) × PiecePromised s state piece starts entries l left
 piece_outcome s state piece starts entries =
     let l : Left = record { answer = answer_to_piece state; state = numbers_after_piece s state piece starts; entries = record_after_piece state entries } in
@@ -43,8 +48,8 @@ piece_outcome s state piece starts entries =
       left,
       record {
         lifetimes = ([], ([], ([], ([], tt))));
-        passed = (s, (lent state, (lent piece, (lent starts, (lent entries, tt)))));
-        at_exit = (s, (lent l.state, (lent piece, (lent left, (lent l.entries, tt)))));
+        passed = (s, (lent_to_write state, (lent piece, (lent_to_write starts, (lent_to_write entries, tt)))));
+        at_exit = (s, (lent_to_write l.state, (lent piece, (lent_to_write left, (lent_to_write l.entries, tt)))));
         promise = (refl, refl, refl, refl);
         service = refl;
         state_before = refl;
@@ -63,8 +68,8 @@ end_outcome state entries =
       l,
       record {
         lifetimes = ([], ([], tt));
-        passed = (lent state, (lent entries, tt));
-        at_exit = (lent l.state, (lent l.entries, tt));
+        passed = (lent_to_write state, (lent_to_write entries, tt));
+        at_exit = (lent_to_write l.state, (lent_to_write l.entries, tt));
         promise = (refl, refl, refl);
         state_before = refl;
         entries_before = refl;

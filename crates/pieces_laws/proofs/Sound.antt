@@ -188,4 +188,4 @@ module _ (s : Service) (good : GoodService s) {memory : List ℕ} where
   sound_run x (b ∷ bs) [] e a = absurd (omega arith)
   sound_run {text} {lents} {p} {now} x (b ∷ bs) (l ∷ ls) e a =
       let y = sound_byte s good x b l (let f = a.0 in let z = x.told.starts.as_long in omega arith) in
-      rw (sym (append_assoc text (b ∷ []) bs), sym (append_assoc lents (l ∷ []) ls)) (sound_run y bs ls (omega arith) a.1)
+      rw (sym (append_assoc text (b ∷ []) bs), sym (append_assoc lents (l ∷ []) ls)) (sound_run {text = text ++ (b ∷ [])} {lents = lents ++ (l ∷ [])} y bs ls (omega arith) a.1)
