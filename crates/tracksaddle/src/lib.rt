@@ -1,4 +1,4 @@
-// The C door: what c/tracksaddle.h declares, and nothing else. Numbers and slices pass; the work is done below.
+// The C door: what c/tracksaddle.h declares, and nothing else. Numbers and slices pass; the work is done below. Crate tracksaddle_c exports it.
 #![tactic(auto)]
 
 ghost use Rattle.std.specs.Prelude.{◌≡◌};
@@ -18,8 +18,7 @@ use reading::service::Service;
 
 // The verdict on the message under the book, with what is known of the conditions: its number is returned, its six numbers
 // go into the lent record.
-#[unsafe(no_mangle)]
-pub extern "C" fn tracksaddle_judge(
+pub fn tracksaddle_judge(
     message: &[u8],
     book: &[u8],
     conditions: &[u8],
@@ -40,8 +39,7 @@ pub extern "C" fn tracksaddle_judge(
 }
 
 // Where the component lies in the message: its offset and its length.
-#[unsafe(no_mangle)]
-pub extern "C" fn tracksaddle_find_component(
+pub fn tracksaddle_find_component(
     message: &[u8],
     at: usize,
     element: usize,
@@ -58,8 +56,7 @@ pub extern "C" fn tracksaddle_find_component(
 }
 
 // One more piece of a message. `reading` is the state that the caller keeps between calls; once the message has ended, its answer again.
-#[unsafe(no_mangle)]
-pub extern "C" fn tracksaddle_read_piece(
+pub fn tracksaddle_read_piece(
     reading: &mut [usize],
     piece: &[u8],
     starts: &mut [u32],
@@ -74,8 +71,7 @@ pub extern "C" fn tracksaddle_read_piece(
 }
 
 // The message that was read in pieces ends: its number is returned, its six numbers go into the lent record, and any further call gets the same.
-#[unsafe(no_mangle)]
-pub extern "C" fn tracksaddle_read_end(reading: &mut [usize], numbers: &mut [u32]) -> u32
+pub fn tracksaddle_read_end(reading: &mut [usize], numbers: &mut [u32]) -> u32
     ensures { (result ≡ answer_to_end reading.old)
         × (reading.new ≡ numbers_after_end reading.old)
         × (numbers.new ≡ record_after_end reading.old numbers.old) }
@@ -84,24 +80,21 @@ pub extern "C" fn tracksaddle_read_end(reading: &mut [usize], numbers: &mut [u32
 }
 
 // The table's number for the book alone: 1 malformed, 0 otherwise.
-#[unsafe(no_mangle)]
-pub extern "C" fn tracksaddle_check_book(book: &[u8]) -> u32
+pub fn tracksaddle_check_book(book: &[u8]) -> u32
     ensures { Judged book.now result }
 {
     book::check_book(book)
 }
 
 // Adds one to the count of a verdict's number: answers 0, or the first refusal, 1 to 3.
-#[unsafe(no_mangle)]
-pub extern "C" fn tracksaddle_tally_add(tally: &mut [u8], number: u32) -> u32
+pub fn tracksaddle_tally_add(tally: &mut [u8], number: u32) -> u32
     ensures { (result ≡ answer_to_add tally.old number) × (tally.new ≡ tally_after_add tally.old number) }
 {
     tally::add(tally, number)
 }
 
 // Makes every count 0: answers 0, or refusal 1.
-#[unsafe(no_mangle)]
-pub extern "C" fn tracksaddle_tally_clear(tally: &mut [u8]) -> u32
+pub fn tracksaddle_tally_clear(tally: &mut [u8]) -> u32
     ensures { (result ≡ answer_to_clear tally.old) × (tally.new ≡ tally_after_clear tally.old) }
 {
     tally::clear(tally)

@@ -1,0 +1,99 @@
+// What C links: the exports that c/tracksaddle.h declares, each by the function of crate tracksaddle that has its name, with the same clauses. A crate is
+// built as a library or as a static library, and not as both; the demands are of the library's contracts.
+#![tactic(auto)]
+
+ghost use Rattle.std.specs.Prelude.{◌≡◌};
+ghost use Rattle.slices.specs.meaning.Lent.{as_many_as_fit};
+ghost use Rattle.tracksaddle.specs.meaning.Door.{part_numbers};
+ghost use Rattle.reading.specs.method.Machine.{component_span};
+ghost use Rattle.reading.specs.meaning.Service.{standard};
+ghost use Rattle.book.specs.meaning.GoodBook.{Judged};
+ghost use Rattle.framing.specs.meaning.Record.{numbers_of};
+ghost use Rattle.judging.specs.method.Table.{judged, tables_after};
+ghost use Rattle.judging.specs.meaning.Tables.{tables, room_of};
+ghost use Rattle.pieces.specs.method.Calls.{answer_to_piece, numbers_after_piece, starts_after_piece, record_after_piece, answer_to_end, numbers_after_end, record_after_end};
+ghost use Rattle.tally.specs.meaning.Tally.{answer_to_add, tally_after_add, answer_to_clear, tally_after_clear};
+
+// The verdict on the message under the book, with what is known of the conditions: its number is returned, its six numbers
+// go into the lent record.
+#[unsafe(no_mangle)]
+pub extern "C" fn tracksaddle_judge(
+    message: &[u8],
+    book: &[u8],
+    conditions: &[u8],
+    starts: &mut [u32],
+    homes: &mut [u32],
+    parents: &mut [u32],
+    numbers: &mut [u32],
+) -> u32
+    ensures { (result ≡ (judged standard message.now book.now conditions.now (room_of (tables starts.old homes.old parents.old))).number)
+        × (numbers.new ≡ as_many_as_fit (numbers_of (judged standard message.now book.now conditions.now (room_of (tables starts.old homes.old parents.old)))) numbers.old)
+        × (tables starts.new homes.new parents.new
+        ≡ tables_after standard message.now book.now conditions.now (tables starts.old homes.old parents.old)) }
+{
+    tracksaddle::tracksaddle_judge(message, book, conditions, starts, homes, parents, numbers)
+}
+
+// Where the component lies in the message: its offset and its length.
+#[unsafe(no_mangle)]
+pub extern "C" fn tracksaddle_find_component(
+    message: &[u8],
+    at: usize,
+    element: usize,
+    component: usize,
+    part: &mut [usize],
+)
+    ensures { part.new ≡ as_many_as_fit (part_numbers (component_span standard message.now at element component)) part.old }
+{
+    tracksaddle::tracksaddle_find_component(message, at, element, component, part);
+}
+
+// One more piece of a message. `reading` is the state that the caller keeps between calls; once the message has ended, its answer again.
+#[unsafe(no_mangle)]
+pub extern "C" fn tracksaddle_read_piece(
+    reading: &mut [usize],
+    piece: &[u8],
+    starts: &mut [u32],
+    numbers: &mut [u32],
+) -> u32
+    ensures { (result ≡ answer_to_piece reading.old)
+        × (reading.new ≡ numbers_after_piece standard reading.old piece.now starts.old)
+        × (starts.new ≡ starts_after_piece standard reading.old piece.now starts.old)
+        × (numbers.new ≡ record_after_piece reading.old numbers.old) }
+{
+    tracksaddle::tracksaddle_read_piece(reading, piece, starts, numbers)
+}
+
+// The message that was read in pieces ends: its number is returned, its six numbers go into the lent record, and any further call gets the same.
+#[unsafe(no_mangle)]
+pub extern "C" fn tracksaddle_read_end(reading: &mut [usize], numbers: &mut [u32]) -> u32
+    ensures { (result ≡ answer_to_end reading.old)
+        × (reading.new ≡ numbers_after_end reading.old)
+        × (numbers.new ≡ record_after_end reading.old numbers.old) }
+{
+    tracksaddle::tracksaddle_read_end(reading, numbers)
+}
+
+// The table's number for the book alone: 1 malformed, 0 otherwise.
+#[unsafe(no_mangle)]
+pub extern "C" fn tracksaddle_check_book(book: &[u8]) -> u32
+    ensures { Judged book.now result }
+{
+    tracksaddle::tracksaddle_check_book(book)
+}
+
+// Adds one to the count of a verdict's number: answers 0, or the first refusal, 1 to 3.
+#[unsafe(no_mangle)]
+pub extern "C" fn tracksaddle_tally_add(tally: &mut [u8], number: u32) -> u32
+    ensures { (result ≡ answer_to_add tally.old number) × (tally.new ≡ tally_after_add tally.old number) }
+{
+    tracksaddle::tracksaddle_tally_add(tally, number)
+}
+
+// Makes every count 0: answers 0, or refusal 1.
+#[unsafe(no_mangle)]
+pub extern "C" fn tracksaddle_tally_clear(tally: &mut [u8]) -> u32
+    ensures { (result ≡ answer_to_clear tally.old) × (tally.new ≡ tally_after_clear tally.old) }
+{
+    tracksaddle::tracksaddle_tally_clear(tally)
+}
