@@ -31,7 +31,7 @@ use Rattle.judging.proofs.Decided.{refusal_number}
 use Rattle.judging.specs.method.Table.{refusal, identifier_in, identifier_verdict, placed_stage, judged, tables_after}
 use Rattle.slices.specs.meaning.Lent.{as_many_as_fit}
 use Rattle.tracksaddle.proofs.tracksaddle_judge.Reads as judge
-use Rattle.demands.proofs.DoorMeans.{whole_record, lent}
+use Rattle.demands.proofs.DoorMeans.{whole_record, lent, lent_to_write}
 use Rattle.demands.specs.meaning.Demands.{HoldTree, Demand1, Demand2, Demand3}
 use Rattle.demands.specs.meaning.Closing as call
 use Rattle.demands.specs.meaning.Closing.{Handed, Left, Promised, knowing, Answers, Shown, IsOther, Closing}
@@ -138,8 +138,8 @@ module _ (h : Handed) (l : Left) (p : Promised h l) where
 
 -- ---- whatever is handed over, there is an outcome that the contract admits
 
--- a call's seven arguments
-abbrev seven : {A : Type 0} → A → A → A → A → A → A → A → A × (A × (A × (A × (A × (A × (A × Unit {0}))))))
+-- a call's seven arguments: three that it reads, and four that it may write
+abbrev seven : {A B : Type 0} → A → A → A → B → B → B → B → A × (A × (A × (B × (B × (B × (B × Unit {0}))))))
 seven a b c d e f g = (a, (b, (c, (d, (e, (f, (g, tt)))))))
 
 outcome : (h : Handed) → (l : Left) × Promised h l
@@ -147,9 +147,9 @@ outcome h = (
   record { number = (verdict_on h).number; tables = tables_on h; entries = as_many_as_fit (numbers_of (verdict_on h)) h.entries },
   record {
     lifetimes = seven [] [] [] [] [] [] [];
-    passed = seven (lent h.message) (lent h.book) (lent h.conditions) (lent h.tables.starts) (lent h.tables.homes) (lent h.tables.parents) (lent h.entries);
-    at_exit = seven (lent h.message) (lent h.book) (lent h.conditions) (lent (tables_on h).starts) (lent (tables_on h).homes) (lent (tables_on h).parents)
-        (lent (as_many_as_fit (numbers_of (verdict_on h)) h.entries));
+    passed = seven (lent h.message) (lent h.book) (lent h.conditions) (lent_to_write h.tables.starts) (lent_to_write h.tables.homes) (lent_to_write h.tables.parents) (lent_to_write h.entries);
+    at_exit = seven (lent h.message) (lent h.book) (lent h.conditions) (lent_to_write (tables_on h).starts) (lent_to_write (tables_on h).homes)
+        (lent_to_write (tables_on h).parents) (lent_to_write (as_many_as_fit (numbers_of (verdict_on h)) h.entries));
     promise = (refl, refl, refl);
     message = refl;
     book = refl;

@@ -5,7 +5,8 @@ use mathlib.Core.Path.{◌≡◌, refl, sym, ap, ◌∙◌}
 use mathlib.Core.List.{List, [], ◌∷◌}
 use lib.ListN.{length, take, drop}
 use lib.Seq.{take_all}
-use denote.Ref.{Bor}
+use denote.Bor.{Bor}
+use denote.MutBor.{MutBor}
 use Rattle.framing.specs.meaning.Record.{numbers_of}
 use Rattle.framing.specs.declared.verdict.Verdict.{Verdict}
 use Rattle.reading.specs.meaning.Service.{standard}
@@ -32,6 +33,10 @@ module _ (s : Sought) (after : List ℕ) (p : Promised s after) where
 abbrev pub lent : List ℕ → Bor (List ℕ)
 lent xs = record { ref_ptr = (0, 0); now = xs }
 
+-- the same of a slice that the call may write
+abbrev pub lent_to_write : List ℕ → MutBor (List ℕ)
+lent_to_write xs = record { ref_ptr = (0, 0); ghost_name = 0; now = xs }
+
 -- an outcome that the contract admits
 outcome : (s : Sought) → (after : List ℕ) × Promised s after
 outcome s =
@@ -39,9 +44,9 @@ outcome s =
       after,
       record {
         lifetimes = ([], ([], tt));
-        passed = (lent s.message, (s.at, (s.element, (s.component, (lent s.part, tt)))));
+        passed = (lent s.message, (s.at, (s.element, (s.component, (lent_to_write s.part, tt)))));
         returned = tt;
-        at_exit = (lent s.message, (s.at, (s.element, (s.component, (lent after, tt)))));
+        at_exit = (lent s.message, (s.at, (s.element, (s.component, (lent_to_write after, tt)))));
         promise = refl;
         message = refl;
         at = refl;

@@ -9,7 +9,7 @@ use Rattle.pieces.specs.method.Calls.{answer_to_piece, numbers_after_piece, star
 use Rattle.pieces.proofs.Cases.{PieceMakes, EndMakes}
 use Rattle.pieces_laws.proofs.Calls.{read_as_one}
 use Rattle.demands.specs.statements.Pieces.{PieceOfDoor, EndOfDoor, DoorReadsAsOne}
-use Rattle.demands.proofs.DoorMeans.{lent}
+use Rattle.demands.proofs.DoorMeans.{lent, lent_to_write}
 
 -- ---- what the contracts say
 
@@ -40,8 +40,8 @@ piece_outcome state piece starts entries =
       left,
       record {
         lifetimes = ([], ([], ([], ([], tt))));
-        passed = (lent state, (lent piece, (lent starts, (lent entries, tt))));
-        at_exit = (lent l.state, (lent piece, (lent left, (lent l.entries, tt))));
+        passed = (lent_to_write state, (lent piece, (lent_to_write starts, (lent_to_write entries, tt))));
+        at_exit = (lent_to_write l.state, (lent piece, (lent_to_write left, (lent_to_write l.entries, tt))));
         promise = (refl, refl, refl, refl);
         state_before = refl;
         piece_before = refl;
@@ -59,8 +59,8 @@ end_outcome state entries =
       l,
       record {
         lifetimes = ([], ([], tt));
-        passed = (lent state, (lent entries, tt));
-        at_exit = (lent l.state, (lent l.entries, tt));
+        passed = (lent_to_write state, (lent_to_write entries, tt));
+        at_exit = (lent_to_write l.state, (lent_to_write l.entries, tt));
         promise = (refl, refl, refl);
         state_before = refl;
         entries_before = refl;

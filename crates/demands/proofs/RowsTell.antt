@@ -34,14 +34,15 @@ all_lowest cs (j ∷ ks) k h = (h j (inl refl), all_lowest cs ks k (λ i n. h i 
 lowest_unknown : (cs ks : List ℕ) (k : ℕ) → Lowest cs ks k → LowestUnknown cs ks k
 lowest_unknown cs ks k l = record { named = in_names k ks l.named; unknown = l.unknown; lowest = all_lowest cs ks k l.least }
 
-at_most : (cs ks : List ℕ) (j k : ℕ) → All (λ i. is_unknown cs i ≡ true → k ≤ i) ks → In j ks → is_unknown cs j ≡ true → k ≤ j
-at_most cs ks j k a here u = a.0 u
-at_most cs ks j k a (there {xs = xs} n) u = at_most cs xs j k a.1 n u
+at_most : (cs : List ℕ) (j k : ℕ) (ks : List ℕ) → All (λ i. is_unknown cs i ≡ true → k ≤ i) ks → In j ks → is_unknown cs j ≡ true → k ≤ j
+at_most cs j k [] a n u = elim n [ ]
+at_most cs j k (i ∷ ks) a here u = a.0 u
+at_most cs j k (i ∷ ks) a (there n) u = at_most cs j k ks a.1 n u
 
 one_lowest : (cs ks : List ℕ) (j k : ℕ) → LowestUnknown cs ks j → LowestUnknown cs ks k → j ≡ k
 one_lowest cs ks j k x y =
-    let a = at_most cs ks j k y.lowest x.named x.unknown in
-    let b = at_most cs ks k j x.lowest y.named y.unknown in
+    let a = at_most cs j k ks y.lowest x.named x.unknown in
+    let b = at_most cs k j ks x.lowest y.named y.unknown in
     omega arith
 
 -- ---- entry by entry
