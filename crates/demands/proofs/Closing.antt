@@ -30,7 +30,6 @@ use Rattle.rules.specs.declared.identifier.Identified.TheVariants.{Known, Foreig
 use Rattle.judging.proofs.Decided.{refusal_number}
 use Rattle.judging.specs.method.Table.{refusal, identifier_in, identifier_verdict, placed_stage, judged, tables_after}
 use Rattle.slices.specs.meaning.Lent.{as_many_as_fit}
-use Rattle.tracksaddle.proofs.tracksaddle_judge.Reads as judge
 use Rattle.demands.proofs.DoorMeans.{whole_record, lent, lent_to_write}
 use Rattle.demands.specs.meaning.Demands.{HoldTree, Demand1, Demand2, Demand3}
 use Rattle.demands.specs.meaning.Closing as call

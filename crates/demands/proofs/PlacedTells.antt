@@ -22,7 +22,6 @@ use Rattle.placing.specs.meaning.Fitting.{homes_in}
 use Rattle.placing.specs.meaning.Placement.{Placed, parents_of}
 use Rattle.placing.specs.meaning.Answers.{HaveHomes}
 use Rattle.reading.specs.meaning.Starts.{starts_of}
-use Rattle.placing_laws.proofs.Noted.{tree}
 use Rattle.placing_laws.proofs.Messages.{found-homes}
 use Rattle.reading_laws.proofs.Starts.{found_starts}
 use Rattle.placing_laws.proofs.OneIdentifier.{one_identifier}

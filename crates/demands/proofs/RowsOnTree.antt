@@ -13,7 +13,6 @@ use Rattle.framing.specs.meaning.Limits.{most_bytes}
 use Rattle.reading.specs.meaning.Service.{GoodService}
 use Rattle.reading.specs.meaning.Message.{Message, write_segments, render}
 use Rattle.reading.specs.meaning.WellFormed.{WellFormed}
-use Rattle.reading.specs.method.Machine.{scanned}
 use Rattle.reading.specs.declared.service.Service.{Service}
 use Rattle.reading_laws.proofs.Rendering.{segments_front, segments_append}
 use Rattle.guide.specs.meaning.Plan.{plan_in}

@@ -16,7 +16,6 @@ use Rattle.book_laws.proofs.Clauses.{last_frame, counts}
 use Rattle.reading.specs.meaning.Service.{All, GoodService}
 use Rattle.reading.specs.meaning.Message.{Segment, Message, ValidTag, ValidSegment}
 use Rattle.reading.specs.meaning.WellFormed.{WellFormed}
-use Rattle.reading_laws.specs.laws.Outcome.{Means}
 use Rattle.reading.specs.meaning.Tag.{tag_number, UNT}
 use Rattle.reading.specs.declared.service.Service.{Service}
 use Rattle.guide.specs.meaning.Plan.{plan_in}

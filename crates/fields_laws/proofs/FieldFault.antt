@@ -12,7 +12,6 @@ use Rattle.book.specs.meaning.GoodBook.{GoodBook}
 use Rattle.guide.specs.meaning.View.{numbers_from, Field, field_of, line_of}
 use Rattle.book_laws.proofs.Clauses.{line_fields}
 use Rattle.book_laws.proofs.ViewedLines.{InOrder, good_field, line_fields_in_order}
-use Rattle.reading.proofs.Booleans.{left}
 use Rattle.reading.specs.meaning.Service.{GoodService}
 use Rattle.reading.specs.meaning.Message.{Component, Element, Segment}
 use Rattle.reading.specs.meaning.WellFormed.{SegmentAt}

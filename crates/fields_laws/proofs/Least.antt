@@ -1,6 +1,6 @@
 -- The pass over components and fields finds the least fault: it goes from place to place, and at each one it either answers a fault
 -- or knows that there is none before the next place that it comes to.
-use Prim.Native.Nat.{ℕ, zero, suc, ◌-◌, ◌≤◌}
+use Prim.Native.Nat.{ℕ, zero, suc, ◌≤◌}
 use native.Mathlib.Omega.{arith}
 use native.Mathlib.Decide.{dec_lt}
 use mathlib.Core.Path.{◌≡◌, refl, sym, ap, ◌∙◌, subst}

@@ -1,7 +1,7 @@
 -- The pass over the homes finds the instances of a line's parent, and in each the line's first segment, as the tree gives them. A
 -- segment that shows the line hangs under the last trigger before it: so the instances do not overlap, and what is seen from one
 -- trigger to the next is what the tree has there.
-use Prim.Native.Nat.{ℕ, zero, suc, ◌+◌, ◌-◌, ◌≤◌, ◌<◌}
+use Prim.Native.Nat.{ℕ, zero, suc, ◌+◌, ◌≤◌, ◌<◌}
 use native.Mathlib.Omega.{arith}
 use mathlib.Core.Path.{◌≡◌, refl, sym, ap, ◌∙◌}
 use mathlib.Core.List.{List, [], ◌∷◌, ◌++◌, map}

@@ -1,7 +1,7 @@
 -- A line of a good book and its parent: it is the parent's trigger or one of its further lines. Which segments open the parent's
 -- instances, which show the line, and that these are the same only where the line is the trigger. After a segment line the depth
 -- stays or falls, so the line before a line is its owner only if it is a group.
-use Prim.Native.Nat.{ℕ, zero, suc, pred, ◌-◌, ◌≤◌, ◌<◌}
+use Prim.Native.Nat.{ℕ, zero, suc, pred, ◌≤◌, ◌<◌}
 use native.Mathlib.Omega.{arith}
 use mathlib.Core.Path.{◌≡◌, refl, sym, ap, ◌∙◌, subst}
 use mathlib.Core.List.{List, [], ◌∷◌}

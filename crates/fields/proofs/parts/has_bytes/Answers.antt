@@ -1,5 +1,5 @@
 use mathlib.Core.Path.{sym, ap, ◌∙◌}
-use mathlib.Core.Bool.{false, not}
+use mathlib.Core.Bool.{not}
 use Rattle.fields.proofs.Cutting.{some_on, some_here, some_out}
 use Rattle.fields.proofs.parts.has_bytes.Goals as goal
 
