@@ -6,26 +6,25 @@
 mod book_k;
 
 use framing::Verdict;
-use libc::STDOUT_FILENO;
 use reading::service::Service;
+use std::io;
 
-fn write(text: &[u8]) {
-    io::write_all(STDOUT_FILENO, text);
+fn write(rt: &impl Print, text: &[u8]) -> io::Result<()> {
+    rt.write_all(text)
 }
 
-fn write_number(number: u32) {
-    write(b" ");
-    io::print_decimal(STDOUT_FILENO, number as u64);
+fn write_number(rt: &impl Print, number: u32) -> io::Result<()> {
+    print!(rt; " {number}")
 }
 
-fn write_verdict(verdict: Verdict) {
-    write_number(verdict.number);
-    write_number(verdict.place.at);
-    write_number(verdict.place.line);
-    write_number(verdict.place.element);
-    write_number(verdict.place.component);
-    write_number(verdict.condition);
-    write(b"\n");
+fn write_verdict(rt: &impl Print, verdict: Verdict) -> io::Result<()> {
+    write_number(rt, verdict.number)?;
+    write_number(rt, verdict.place.at)?;
+    write_number(rt, verdict.place.line)?;
+    write_number(rt, verdict.place.element)?;
+    write_number(rt, verdict.place.component)?;
+    write_number(rt, verdict.condition)?;
+    write(rt, b"\n")
 }
 
 // No bench message under K has more segments than the tables have entries.
@@ -45,34 +44,37 @@ fn judge_under_k(message: &[u8], condition: u8) -> Verdict {
     )
 }
 
-fn write_judged(state: &[u8], message: &[u8], condition: u8) {
-    write(state);
-    write_verdict(judge_under_k(message, condition));
+fn write_judged(rt: &impl Print, state: &[u8], message: &[u8], condition: u8) -> io::Result<()> {
+    write(rt, state)?;
+    write_verdict(rt, judge_under_k(message, condition))
 }
 
 // The message, and a line for each state of the condition.
-fn bench(message: &[u8]) {
-    write(message);
-    write(b"\n");
-    write_judged(b"  false  ", message, 0);
-    write_judged(b"  true   ", message, 1);
-    write_judged(b"  unknown", message, 2);
+fn bench(rt: &impl Print, message: &[u8]) -> io::Result<()> {
+    write(rt, message)?;
+    write(rt, b"\n")?;
+    write_judged(rt, b"  false  ", message, 0)?;
+    write_judged(rt, b"  true   ", message, 1)?;
+    write_judged(rt, b"  unknown", message, 2)
 }
 
 // In the order of 01.
-fn main() {
-    bench(b"UNH+1'BGM+7'RFF+Z13:10001'UNT+4+1'");
-    bench(b"UNH+1'BGM+7'RFF+Z13:10001'UNT+5+1'");
-    bench(b"UNH+1'BGM+7'RFF+Z13:10001'UNT+5+2'");
-    bench(b"UNH+1'BGM+7'RFF+Z13:10001'UNT+4+2'");
-    bench(b"UNH+1'BGM+7'RFF+Z13:10001'LIN+1'QTY+145:5'UNT+6+1'");
-    bench(b"UNH+1'BGM+7'RFF+Z13:10001'LIN+1'UNT+5+1'");
-    bench(b"UNH+1'BGM+7'RFF+Z13:10001'LIN+1'QTY+145:5'LIN+2'UNT+7+1'");
-    bench(b"UNH+1'BGM+7'RFF+Z13:10001'LIN+1'LIN+2'LIN+3'UNT+7+1'");
-    bench(b"UNH+1'BGM+7'RFF+Z13:10001'QTY+145:5'LIN+1'UNT+6+1'");
-    bench(b"UNH+1'BGM+7'UNT+3+1'");
-    bench(b"UNH+1'BGM+7'RFF+Z13:10001'LIN+1,5'UNT+5+1'");
-    bench(b"");
-    bench(b"UNH+1");
-    bench(b"UNH+1?A'");
+fn main(rt: HostRuntime) -> io::Result<()> {
+    bench(&rt, b"UNH+1'BGM+7'RFF+Z13:10001'UNT+4+1'")?;
+    bench(&rt, b"UNH+1'BGM+7'RFF+Z13:10001'UNT+5+1'")?;
+    bench(&rt, b"UNH+1'BGM+7'RFF+Z13:10001'UNT+5+2'")?;
+    bench(&rt, b"UNH+1'BGM+7'RFF+Z13:10001'UNT+4+2'")?;
+    bench(&rt, b"UNH+1'BGM+7'RFF+Z13:10001'LIN+1'QTY+145:5'UNT+6+1'")?;
+    bench(&rt, b"UNH+1'BGM+7'RFF+Z13:10001'LIN+1'UNT+5+1'")?;
+    bench(
+        &rt,
+        b"UNH+1'BGM+7'RFF+Z13:10001'LIN+1'QTY+145:5'LIN+2'UNT+7+1'",
+    )?;
+    bench(&rt, b"UNH+1'BGM+7'RFF+Z13:10001'LIN+1'LIN+2'LIN+3'UNT+7+1'")?;
+    bench(&rt, b"UNH+1'BGM+7'RFF+Z13:10001'QTY+145:5'LIN+1'UNT+6+1'")?;
+    bench(&rt, b"UNH+1'BGM+7'UNT+3+1'")?;
+    bench(&rt, b"UNH+1'BGM+7'RFF+Z13:10001'LIN+1,5'UNT+5+1'")?;
+    bench(&rt, b"")?;
+    bench(&rt, b"UNH+1")?;
+    bench(&rt, b"UNH+1?A'")
 }
