@@ -21,7 +21,7 @@ use Rattle.placing.specs.meaning.Answers.{HaveHomes}
 use Rattle.reading.specs.method.Starts.{starts_table}
 use Rattle.placing.specs.method.Passes.{homes_table, parents_table}
 use Rattle.placing_laws.proofs.Homes.{home_fits}
-use Rattle.placing_laws.proofs.Messages.{starts-table, homes-table, parents-table}
+use Rattle.placing_laws.proofs.Messages.{starts_table_lem, homes_table_lem, parents_table_lem}
 use Rattle.judging.specs.meaning.Tables.{is_refusal, Tables, room_of}
 use Rattle.judging.specs.method.Table.{refusal, unless_refused, judged, tables_after}
 use Rattle.demands.specs.meaning.Demands.{Fit, HoldTree, Demand1}
@@ -89,14 +89,14 @@ module _ (s : Service) (service : GoodService s) (bs book : List ℕ) (t : Table
           placed = c.placed;
           starts =
               written t.starts (starts_table s bs (at cs) t.starts) ∙ ap (λ (k : ℕ). starts_table s bs k t.starts) count
-              ∙ starts-table s service bs c.well_formed book c.good t.starts c.roomy.starts
+              ∙ starts_table_lem s service bs c.well_formed book c.good t.starts c.roomy.starts
               ∙ ap (λ (xs : List ℕ). xs ++ drop (length c.well_formed.message) t.starts) (entries_are s service bs c.well_formed c.within);
           homes =
               written t.homes (homes_table s bs book (at cs) t.homes) ∙ ap (λ (k : ℕ). homes_table s bs book k t.homes) count
-              ∙ homes-table s service bs c.well_formed book c.good t.homes c.roomy.homes;
+              ∙ homes_table_lem s service bs c.well_formed book c.good t.homes c.roomy.homes;
           parents =
               written t.parents (parents_table s bs book (at cs) t.parents) ∙ ap (λ (k : ℕ). parents_table s bs book k t.parents) count
-              ∙ parents-table s service bs c.well_formed book c.good c.placed t.parents c.roomy.parents;
+              ∙ parents_table_lem s service bs c.well_formed book c.good c.placed t.parents c.roomy.parents;
         }
 
   same_tables : (cs ds : List ℕ) (x : is_refusal (judged s bs book cs room).number ≡ false) (y : is_refusal (judged s bs book ds room).number ≡ false) → tables_after s bs book cs t ≡ tables_after s bs book ds t

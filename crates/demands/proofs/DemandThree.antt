@@ -39,7 +39,7 @@ use Rattle.demands.proofs.RowsOnTree.{rows_on_tree}
 use Rattle.reading.specs.meaning.Service.{GoodService}
 use Rattle.placing.specs.meaning.Fitting.{homes_in}
 use Rattle.placing.specs.meaning.Placement.{parents_of}
-use Rattle.placing_laws.proofs.Messages.{found-homes}
+use Rattle.placing_laws.proofs.Messages.{found_homes}
 use Rattle.rules.specs.method.Scanning.{scanned_row}
 use Rattle.rules_laws.proofs.Identifiers.{identified_known}
 
@@ -221,7 +221,7 @@ module _ (s : Service) (service : GoodService s) (bs book : List ℕ) (room : Ro
 
       homes-are : hs ≡ homes_in book c.well_formed.message
       homes-are =
-          ap (λ (v : Verdict). homes_from s bs book v.place.at 0) c.same ∙ found-homes s service bs c.well_formed book c.good
+          ap (λ (v : Verdict). homes_from s bs book v.place.at 0) c.same ∙ found_homes s service bs c.well_formed book c.good
 
       -- the rows are those of the tree, whatever is known of the conditions
       abbrev ps : List ℕ

@@ -18,7 +18,7 @@ use Rattle.placing.specs.meaning.Answers.{HaveHomes}
 use Rattle.placing.specs.method.Passes.{homes_from, tested}
 use Rattle.placing.specs.declared.passes.Placing.TheVariants.{Begins}
 use Rattle.placing_laws.proofs.Structured.{structured}
-use Rattle.placing_laws.proofs.Messages.{found-homes}
+use Rattle.placing_laws.proofs.Messages.{found_homes}
 use Rattle.placing_laws.proofs.Stopping.{tested_allowed}
 use Rattle.framing.specs.meaning.Record.{answer}
 use Rattle.framing.specs.method.Stages.{frame_of}
@@ -60,7 +60,7 @@ module _ (s : Service) (service : GoodService s) (bs book cs : List ℕ) (room :
           let found = (scan_accepts s service bs c.segments).0 c.scan in
           let w = found.0 in
           let long : c.segments ≡ length w.message = sym found.1 in
-          let homes = found-homes s service bs w book good in
+          let homes = found_homes s service bs w book good in
           let ends = framed_ends s service bs book good w c.last (ap (frame_of s bs) (sym long) ∙ c.frame) in
           let begins : tested (plan_in book) (homes_in book w.message) ≡ Begins =
           sym (ap (λ (k : ℕ). tested (plan_in book) (homes_from s bs book k 0)) long ∙ ap (tested (plan_in book)) homes) ∙ stages.placing_passed in

@@ -22,7 +22,7 @@ use Rattle.placing.specs.meaning.Fitting.{homes_in}
 use Rattle.placing.specs.meaning.Placement.{Placed, parents_of}
 use Rattle.placing.specs.meaning.Answers.{HaveHomes}
 use Rattle.reading.specs.meaning.Starts.{starts_of}
-use Rattle.placing_laws.proofs.Messages.{found-homes}
+use Rattle.placing_laws.proofs.Messages.{found_homes}
 use Rattle.reading_laws.proofs.Starts.{found_starts}
 use Rattle.placing_laws.proofs.OneIdentifier.{one_identifier}
 use Rattle.reading.specs.meaning.Digit.{is_digit}
@@ -203,7 +203,7 @@ module _ (s : Service) (service : GoodService s) (mark : GoodMark s) (bs book cs
 
   placed_is : placed_stage s bs book cs n ≡ placed_verdict s g bs cs n starts hs
   unfolding placed_stage
-  placed_is = ap₂ (placed_verdict s g bs cs n) (found_starts s service bs w) (found-homes s service bs w book good)
+  placed_is = ap₂ (placed_verdict s g bs cs n) (found_starts s service bs w) (found_homes s service bs w book good)
 
   pub placed_tells : (placed_stage s bs book cs n ≡ v) ↔ PlacedSays s bs book cs room m hs ps v
   placed_tells =

@@ -28,7 +28,7 @@ use Rattle.placing.specs.declared.passes.Placing.{Placing}
 use Rattle.placing.specs.declared.passes.Placing.TheVariants.{Begins, NoHome, Stops}
 use Rattle.placing_laws.proofs.Structured.{structured}
 use Rattle.placing_laws.proofs.Homes.{same_tag, fits_home}
-use Rattle.placing_laws.proofs.Messages.{tested-message}
+use Rattle.placing_laws.proofs.Messages.{tested_message}
 use Rattle.placing_laws.proofs.Stopping.{EndsOnLast, allowed_ends, one_meaning}
 use Rattle.framing.specs.meaning.Record.{answer}
 use Rattle.framing.specs.method.Stages.{frame_of}
@@ -188,7 +188,7 @@ module _ (s : Service) (service : GoodService s) (bs book cs : List ℕ) (room :
 
     agrees : PlacedIff → Agrees s service bs room (of_homes s bs book cs room) (λ x. HomesSay s bs book cs room x (homes_in book x)) v w
     agrees later none =
-        homes_say (ends m w.valid.segments w.valid.non_empty refl none) later (tested (plan_in book) (homes_from s bs book n 0)) (tested-message s service bs w book good)
+        homes_say (ends m w.valid.segments w.valid.non_empty refl none) later (tested (plan_in book) (homes_from s bs book n 0)) (tested_message s service bs w book good)
 
   -- ---- numbers 1 and 2
 

@@ -119,8 +119,8 @@ module _ (g : Guide) (f : ℕ) where
     broken_full h = ap (λ (t : Bool). cond t (eqb (g.presence f) empty_presence || not (fits s g f x)) (is_missing g some f)) (bytes_some x h)
 
     module _ (h : length x ≡ 0 → ⊥) (n : ℕ) (e : n ≡ g.presence f) where
-      pub broken-zero : n ≡ 0 → true ≡ is_broken s g some f x
-      broken-zero z = sym (broken_full h ∙ ap (λ (t : Bool). t || not (fits s g f x)) (eq-eqb (g.presence f) empty_presence (sym e ∙ z)))
+      pub broken_zero : n ≡ 0 → true ≡ is_broken s g some f x
+      broken_zero z = sym (broken_full h ∙ ap (λ (t : Bool). t || not (fits s g f x)) (eq-eqb (g.presence f) empty_presence (sym e ∙ z)))
 
-      pub broken-unfit : (r : Bool) → (n ≡ 0 → ⊥) → r ≡ fits s g f x → not r ≡ is_broken s g some f x
-      broken-unfit r z k = ap not k ∙ sym (broken_full h ∙ ap (λ (t : Bool). t || not (fits s g f x)) (ne_eqb (g.presence f) empty_presence (λ y. z (e ∙ y))))
+      pub broken_unfit : (r : Bool) → (n ≡ 0 → ⊥) → r ≡ fits s g f x → not r ≡ is_broken s g some f x
+      broken_unfit r z k = ap not k ∙ sym (broken_full h ∙ ap (λ (t : Bool). t || not (fits s g f x)) (ne_eqb (g.presence f) empty_presence (λ y. z (e ∙ y))))

@@ -49,14 +49,14 @@ module _ (s : Service) (g : Guide) (bs : List ℕ) where
       out-of-starts h =
           sym (ap (λ (xs : List ℕ). first_fault s g bs k xs (drop k (take n homes))) (left_none n k starts h) ∙ no_starts k (drop k (take n homes))) ∙ i.same
 
-      pub testing-starts : length starts ≤ k → first.Clean ≡ first_fault s g bs 0 (take n starts) (take n homes)
-      testing-starts h = out-of-starts (simp length-take (omega arith))
+      pub testing_starts : length starts ≤ k → first.Clean ≡ first_fault s g bs 0 (take n starts) (take n homes)
+      testing_starts h = out-of-starts (simp length-take (omega arith))
 
-      pub testing-done : n ≤ k → first.Clean ≡ first_fault s g bs 0 (take n starts) (take n homes)
-      testing-done h = out-of-starts (simp length-take (omega arith))
+      pub testing_done : n ≤ k → first.Clean ≡ first_fault s g bs 0 (take n starts) (take n homes)
+      testing_done h = out-of-starts (simp length-take (omega arith))
 
-      pub testing-homes : length homes ≤ k → first.Clean ≡ first_fault s g bs 0 (take n starts) (take n homes)
-      testing-homes h =
+      pub testing_homes : length homes ≤ k → first.Clean ≡ first_fault s g bs 0 (take n starts) (take n homes)
+      testing_homes h =
           sym (
           ap (first_fault s g bs k (drop k (take n starts))) (left_none n k homes (simp length-take (omega arith)))
           ∙ no_homes k (drop k (take n starts))
@@ -70,13 +70,13 @@ module _ (s : Service) (g : Guide) (bs : List ℕ) where
             ap₂ (λ (xs ys : List ℕ). first_fault s g bs k xs ys) (left_next n k starts h hs) (left_next n k homes h hh)
             ∙ ap₂ (λ (x : Fault) (j : ℕ). then_first k (get_or homes k 0) x (first_fault s g bs j (drop (k + 1) (take n starts)) (drop (k + 1) (take n homes)))) (sym r.0) (sym (add-one k))
 
-        pub testing-found : (e c : ℕ) → q ≡ At e c
+        pub testing_found : (e c : ℕ) → q ≡ At e c
             → (first.At (k + 1) (get_or homes k 0) e c ≡ first_fault s g bs 0 (take n starts) (take n homes)) × FirstInReach (length bs) (first.At (k + 1) (get_or homes k 0) e c)
-        testing-found e c x = (
+        testing_found e c x = (
           ap (λ (j : ℕ). first.At j (get_or homes k 0) e c) (add-one k)
               ∙ sym (one_more_lem ∙ ap (λ (y : Fault). then_first k (get_or homes k 0) y (from (k + 1))) x) ∙ i.same,
           subst (InReach (length bs)) x r.1,
         )
 
-        pub testing-on : q ≡ Clean → Testing (k + 1)
-        testing-on x = record { same = sym (one_more_lem ∙ ap (λ (y : Fault). then_first k (get_or homes k 0) y (from (k + 1))) x) ∙ i.same }
+        pub testing_on : q ≡ Clean → Testing (k + 1)
+        testing_on x = record { same = sym (one_more_lem ∙ ap (λ (y : Fault). then_first k (get_or homes k 0) y (from (k + 1))) x) ∙ i.same }

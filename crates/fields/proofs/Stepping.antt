@@ -223,9 +223,9 @@ module _ (s : Service) (g : Guide) (bs : List ℕ) (from : ℕ) (some : Bool) (e
 
     -- by what the test of the component answers
     module _ (q : Step) (h : (test_component s g some e c (raw_in bs start p.end) (fields_from f last) ≡ tested_by last q) × StepWithin c last q) where
-      pub going-broken : (x : ℕ) → q ≡ step.Fault x
+      pub going_broken : (x : ℕ) → q ≡ step.Fault x
           → (test_components s g some e 1 (components_in (cut s false (drop from bs))) (fields_from first last) ≡ broken x) × Near (length bs) x
-      going-broken x k =
+      going_broken x k =
           let w = step_broken last _ c q h x k in
           let n = w.1 in let m = i.counted in let o = i.within in
           (component_broken x w.0, omega arith)
@@ -234,10 +234,10 @@ module _ (s : Service) (g : Guide) (bs : List ℕ) (from : ℕ) (some : Bool) (e
         pub going_on : opens_component s behind ≡ true → Going (c + 1) (p.end + 1) next
         going_on o = let w = step_kept last _ c q h next k in component-on next w.1 w.0 o
 
-        pub going-closed : opens_component s behind ≡ false
+        pub going_closed : opens_component s behind ≡ false
             → (test_components s g some e 1 (components_in (cut s false (drop from bs))) (fields_from first last) ≡ test_absent g some e (fields_from next last))
             × Closes s bs from last p.end next
-        going-closed o =
+        going_closed o =
             let w = step_kept last _ c q h next k in
             (component-closed next w.1 w.0 o, component-closes next w.1 w.0 o)
 
@@ -264,15 +264,15 @@ module _ (s : Service) (g : Guide) (bs : List ℕ) (from e first last : ℕ) (so
     element_few = (closing_closed s bs from last _ absent q h end next k).1.few
 
     module _ (r : Step) (j : (test_absent g some e (fields_from next last) ≡ tested_by last r) × StepWithin 255 last r) where
-      pub element-missing : (x : ℕ) → r ≡ step.Fault x → (whole ≡ broken x) × Near (length bs) x
-      element-missing x m =
+      pub element_missing : (x : ℕ) → r ≡ step.Fault x → (whole ≡ broken x) × Near (length bs) x
+      element_missing x m =
           let w = closing_closed s bs from last _ absent q h end next k in
           let v = step_broken last _ 255 r j x m in
           let n = v.1 in
           (by_components (broken x) (w.0 ∙ v.0), omega arith)
 
-      pub element-kept : (f : ℕ) → r ≡ step.Next f → (whole ≡ kept (fields_from f last)) × Closes s bs from last end f
-      element-kept f m =
+      pub element_kept : (f : ℕ) → r ≡ step.Next f → (whole ≡ kept (fields_from f last)) × Closes s bs from last end f
+      element_kept f m =
           let w = closing_closed s bs from last _ absent q h end next k in
           let v = step_kept last _ 255 r j f m in
           (by_components (kept (fields_from f last)) (w.0 ∙ v.0), record { ends = w.1.ends; few = v.1 })
@@ -318,8 +318,8 @@ module _ (s : Service) (g : Guide) (bs : List ℕ) (at line : ℕ) (last : ℕ) 
     )
 
     module _ (o : opens_element s (drop end bs) ≡ true) where
-      pub passing-inside : end < length bs
-      passing-inside = element_inside s bs end o
+      pub passing_inside : end < length bs
+      passing_inside = element_inside s bs end o
 
       -- the next element, and those behind it
       element-test : fault_at s g bs at line
@@ -334,8 +334,8 @@ module _ (s : Service) (g : Guide) (bs : List ℕ) (at line : ℕ) (last : ℕ) 
       -- by what the test of the element answers
       module _ (q : Closing)
           (h : (test_element s g (e + 1) (components_in (cut s false (drop (end + 1) bs))) (fields_from f last) ≡ when_closed q (λ x. kept (fields_from x last))) × ClosesBy s bs (end + 1) last q) where
-        pub passing-broken : (c : ℕ) → q ≡ closing.Fault c → (At (e + 1) c ≡ fault_at s g bs at line) × InReach (length bs) (At (e + 1) c)
-        passing-broken c k =
+        pub passing_broken : (c : ℕ) → q ≡ closing.Fault c → (At (e + 1) c ≡ fault_at s g bs at line) × InReach (length bs) (At (e + 1) c)
+        passing_broken c k =
             let w = closing_broken s bs (end + 1) last _ (λ x. kept (fields_from x last)) q h c k in
             let n = i.counted in let m = i.within in
             (sym (element-test ∙ ap (λ (x : Tested). then_fault (e + 1) x (test_elements s g (suc (e + 1)) (further_in (cut s false (drop (end + 1) bs))))) w.0), (omega arith, w.1))
@@ -344,11 +344,11 @@ module _ (s : Service) (g : Guide) (bs : List ℕ) (at line : ℕ) (last : ℕ) 
           closes : (test_element s g (e + 1) (components_in (cut s false (drop (end + 1) bs))) (fields_from f last) ≡ kept (fields_from next last)) × Closes s bs (end + 1) last closed next
           closes = closing_closed s bs (end + 1) last _ (λ x. kept (fields_from x last)) q h closed next k
 
-          pub passing-later : (end < closed) × (closed ≤ length bs)
-          passing-later = let w = closes.1.ends in let a = w.from_start in (omega arith, w.within)
+          pub passing_later : (end < closed) × (closed ≤ length bs)
+          passing_later = let w = closes.1.ends in let a = w.from_start in (omega arith, w.within)
 
-          pub passing-on : Passing (e + 1) closed next
-          passing-on =
+          pub passing_on : Passing (e + 1) closed next
+          passing_on =
               let w = closes.1.ends in let a = w.from_start in let n = i.counted in
               record {
                 within = w.within;

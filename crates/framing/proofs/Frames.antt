@@ -101,13 +101,13 @@ module _ (s : Service) (bs : List ℕ) where
     surveying_bad k h e f = ap BadAt f ∙ ap (survey_by s bs) (scanning_bad s bs n at h i.scanning e)
 
     module _ (h : length bs ≤ at) where
-      pub surveying-empty : n ≡ 0 → BadAt at ≡ surveyed s bs
-      surveying-empty z = ap (survey_by s bs) (scanning_empty s bs n at h z i.scanning)
+      pub surveying_empty : n ≡ 0 → BadAt at ≡ surveyed s bs
+      surveying_empty z = ap (survey_by s bs) (scanning_empty s bs n at h z i.scanning)
 
-      pub surveying-end : (n ≡ 0 → ⊥) → (tag w : ℕ) (f : Frame) → tag ≡ tag_at bs last → w ≡ misplaced_by misplaced n n tag → f ≡ frame_by w last
+      pub surveying_end : (n ≡ 0 → ⊥) → (tag w : ℕ) (f : Frame) → tag ≡ tag_at bs last → w ≡ misplaced_by misplaced n n tag → f ≡ frame_by w last
           → Segments n f ≡ surveyed s bs
       unfolding frame_from
-      surveying-end z tag w f t e g =
+      surveying_end z tag w f t e g =
           ap (Segments n)
           (g ∙ ap (λ (x : ℕ). frame_by x last) (e ∙ ap (misplaced_by misplaced n n) t)
           ∙ ap (framed_by (misplaced_by misplaced n n (tag_at bs last))) (sym (ap (frame_from bs n n last) (starts_end s bs n n at (omega arith)))) ∙ i.framed n (omega arith))

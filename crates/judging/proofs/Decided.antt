@@ -184,9 +184,9 @@ module _ (s : Service) (bs book cs : List ℕ) (t : Tables) where
         unfolding placed_stage
         stage_is = ap₂ (placed_verdict s (guide_of book) bs cs n) starts-are homes-are
 
-        pub decided-placed : (v : Verdict) → v ≡ placed_verdict s (guide_of book) bs cs n (take n starts) (take n homes)
+        pub decided_placed : (v : Verdict) → v ≡ placed_verdict s (guide_of book) bs cs n (take n starts) (take n homes)
             → (v ≡ judged s bs book cs room) × (tables starts homes parents ≡ tables_after s bs book cs t)
-        decided-placed v h =
+        decided_placed v h =
             let accepted : is_refusal (judged s bs book cs room).number ≡ false = ap (λ (x : Verdict). is_refusal x.number) judged-is ∙ placed_number s book bs cs n in
             let at : n ≡ (refusal s bs book cs room).place.at = ap (λ (x : Verdict). x.place.at) e in
             (h ∙ stage_is ∙ sym judged-is, written accepted at)

@@ -77,16 +77,16 @@ module _ (s : Service) (bs book cs : List ℕ) (room : Room) where
     refused_book n = first_stays v (book_stage book) from_conditions e n ∙ sym refusal_is
 
     module _ (z : v.number ≡ 0) (w : Verdict) (f : w ≡ conditions_stage (guide_of book) cs) where
-      pub refused-conditions : (w.number ≡ 0 → ⊥) → w ≡ refusal s bs book cs room
-      refused-conditions n =
+      pub refused_conditions : (w.number ≡ 0 → ⊥) → w ≡ refusal s bs book cs room
+      refused_conditions n =
           first_clear v (book_stage book) from_conditions w e z (first_stays w (conditions_stage (guide_of book) cs) from_message f n) ∙ sym refusal_is
 
       module _ (y : w.number ≡ 0) (x : Verdict) (g : x ≡ message_stage s bs room) where
         later : (u : Verdict) → u ≡ from_message → u ≡ refusal s bs book cs room
         later u h = first_clear v (book_stage book) from_conditions u e z (first_clear w (conditions_stage (guide_of book) cs) from_message u f y h) ∙ sym refusal_is
 
-        pub refused-message : (x.number ≡ 0 → ⊥) → x ≡ refusal s bs book cs room
-        refused-message n = later x (first_stays x (message_stage s bs room) (placed_after (message_stage s bs room)) g n)
+        pub refused_message : (x.number ≡ 0 → ⊥) → x ≡ refusal s bs book cs room
+        refused_message n = later x (first_stays x (message_stage s bs room) (placed_after (message_stage s bs room)) g n)
 
-        pub refused-placing : x.number ≡ 0 → (u : Verdict) → u ≡ placing_stage s bs book x.place.at → u ≡ refusal s bs book cs room
-        refused-placing n u h = later u (first_clear x (message_stage s bs room) (placed_after (message_stage s bs room)) u g n (h ∙ ap placed_after g))
+        pub refused_placing : x.number ≡ 0 → (u : Verdict) → u ≡ placing_stage s bs book x.place.at → u ≡ refusal s bs book cs room
+        refused_placing n u h = later u (first_clear x (message_stage s bs room) (placed_after (message_stage s bs room)) u g n (h ∙ ap placed_after g))

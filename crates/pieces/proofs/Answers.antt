@@ -32,15 +32,15 @@ module _ (p : Progress) where
     answer_bad e = rw (counts, fits, e) refl
 
     module _ (complete : is_complete p ≡ true) where
-      pub answer-many : most_segments < p.segments → answer 5 0 ≡ answer_of p
+      pub answer_many : most_segments < p.segments → answer 5 0 ≡ answer_of p
       unfolding answer_of
-      answer-many h = rw (counts, fits, complete, lt-leb p.segments most_segments h) refl
+      answer_many h = rw (counts, fits, complete, lt-leb p.segments most_segments h) refl
 
       module _ (few_segments : p.segments ≤ most_segments) where
-        pub answer-lacking : p.lacking ≡ true → answer 6 (entry p.segments) ≡ answer_of p
+        pub answer_lacking : p.lacking ≡ true → answer 6 (entry p.segments) ≡ answer_of p
         unfolding answer_of
-        answer-lacking e = rw (counts, fits, complete, le-leb p.segments most_segments few_segments, e) refl
+        answer_lacking e = rw (counts, fits, complete, le-leb p.segments most_segments few_segments, e) refl
 
-        pub answer-good : p.lacking ≡ false → answer 0 (entry p.segments) ≡ answer_of p
+        pub answer_good : p.lacking ≡ false → answer 0 (entry p.segments) ≡ answer_of p
         unfolding answer_of
-        answer-good e = rw (counts, fits, complete, le-leb p.segments most_segments few_segments, e) refl
+        answer_good e = rw (counts, fits, complete, le-leb p.segments most_segments few_segments, e) refl

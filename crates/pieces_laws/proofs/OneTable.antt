@@ -18,7 +18,9 @@ use Rattle.reading_laws.proofs.Rendering.{segments_long}
 use Rattle.reading_laws.proofs.Starts.{starts_long}
 use Rattle.framing.specs.meaning.Limits.{most_bytes, most_segments}
 use Rattle.framing.specs.meaning.Record.{answer}
-use Rattle.framing.specs.meaning.Table.{ReadingSays, Unless}
+use Rattle.framing.specs.meaning.Table.{Unless, HasRoom, FirstWrong, NoneWrong, Misplaced, TellsCount, TellsReference, BytesSay}
+use Rattle.pieces.specs.meaning.Table.{ReadingSays}
+use Rattle.framing.specs.declared.message.Room.{Room}
 use Rattle.framing.specs.declared.verdict.Verdict.{Verdict}
 use Rattle.pieces.specs.meaning.Starts.{Finished, FoundEntry, lent_at, StartsLeft}
 use Rattle.pieces.specs.meaning.Pieces.{TextSays}
@@ -169,3 +171,15 @@ module _ (s : Service) (good : GoodService s) (text memory now : List ℕ) (m : 
   as_far_as_they_fit =
       left_fitted (take most_segments (starts_of s m)) (taken_within most_segments (starts_of s m)) (taken_not most_segments (starts_of s m))
       (λ k h. taken_in most_segments (starts_of s m) k (taken_within most_segments (starts_of s m) k h).0)
+
+-- numbers 3 to 6 are those of the judge's own table, by computation
+module _ (s : Service) (bs : List ℕ) (room : Room) (Rest : Message → Verdict → Type 0) where
+  -- 7 to 9
+  abbrev FrameSays : Message → Verdict → Type 0
+  FrameSays m v =
+      ((k : ℕ) × FirstWrong (Misplaced (length m)) 0 m k × (v ≡ answer 7 k))
+      ⊎ (NoneWrong (Misplaced (length m)) 0 m
+      × Unless (TellsCount m) (v ≡ answer 8 (length m)) (Unless (TellsReference m) (v ≡ answer 9 (length m)) (Rest m v)))
+
+  pub table_reads : (v : Verdict) → BytesSay s bs room Rest v ≡ ReadingSays (λ m. HasRoom room (length m)) FrameSays s bs v
+  table_reads v = refl

@@ -11,7 +11,8 @@ use Rattle.reading.specs.declared.service.Service.{Service}
 use Rattle.reading_laws.proofs.FirstBad.{one_first_bad}
 use Rattle.reading_laws.proofs.OneReading.{one_reading}
 use Rattle.framing.specs.meaning.Record.{answer}
-use Rattle.framing.specs.meaning.Table.{Unless, CountSays}
+use Rattle.framing.specs.meaning.Table.{Unless}
+use Rattle.pieces.specs.meaning.Table.{CountSays}
 use Rattle.framing.specs.declared.verdict.Verdict.{Verdict}
 use Rattle.pieces.specs.meaning.Starts.{FoundEntry}
 use Rattle.pieces.specs.meaning.Pieces.{TextSays}

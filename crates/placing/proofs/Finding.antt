@@ -47,8 +47,8 @@ module _ (b : Guide) where
           ∙ sym (simp (ne_eqb (b.selector_element l) 0 (λ z. n (he ∙ z))))
 
       -- it lies within the message
-      pub lies-inside : at + 3 ≤ length bs → Inside (length bs) x.span
-      lies-inside h = subst (Inside (length bs)) (sym (look.lies n)) (seek_inside s bs (at + 3) x.element x.component h)
+      pub lies_inside : at + 3 ≤ length bs → Inside (length bs) x.span
+      lies_inside h = subst (Inside (length bs)) (sym (look.lies n)) (seek_inside s bs (at + 3) x.element x.component h)
 
   -- ---- the tag of a line
 
@@ -166,15 +166,15 @@ module _ (b : Guide) where
       shown : Shown r
       shown = subst Shown (sym first) (least_is (λ l. eqb (get_or tags l 0) t) 1 (end - 1))
 
-      pub home-past : r ≡ 0 → least (fits_at s b bs at) end (suc b.lines - end) ≡ home_at s b bs at
-      home-past z = go r z shown
+      pub home_past : r ≡ 0 → least (fits_at s b bs at) end (suc b.lines - end) ≡ home_at s b bs at
+      home_past z = go r z shown
         where
           go : (x : ℕ) → x ≡ 0 → Shown x → least (fits_at s b bs at) end (suc b.lines - end) ≡ home_at s b bs at
           go x y (found l i j k f) = absurd (omega arith)
           go x y (none f) = let w = end_within in first_past (fits_at s b bs at) b.lines end (omega (arith, w, all.ends)) (omega (arith, w, all.ends)) (λ l i j. passed l j (f l i (omega arith)))
 
-      pub home-first : (r ≡ 0 → ⊥) → least (fits_at s b bs at) r (suc b.lines - r) ≡ home_at s b bs at
-      home-first n = go r n shown
+      pub home_first : (r ≡ 0 → ⊥) → least (fits_at s b bs at) r (suc b.lines - r) ≡ home_at s b bs at
+      home_first n = go r n shown
         where
           go : (x : ℕ) → (x ≡ 0 → ⊥) → Shown x → least (fits_at s b bs at) x (suc b.lines - x) ≡ home_at s b bs at
           go x y (found z i j k f) = let w = end_within in first_past (fits_at s b bs at) b.lines x i (omega (arith, w, all.ends)) (λ l p q. passed l (omega arith) (f l p q))
@@ -182,7 +182,7 @@ module _ (b : Guide) where
 
       -- without a selector that one is the home
       pub home_here : (r ≡ 0 → ⊥) → (x : ℕ) → x ≡ b.selector_element r → x ≡ 0 → r ≡ home_at s b bs at
-      home_here n x h z = sym (go r n (no_selector b s bs at r x h z) shown) ∙ home-first n
+      home_here n x h z = sym (go r n (no_selector b s bs at r x h z) shown) ∙ home_first n
         where
           go : (y : ℕ) → (y ≡ 0 → ⊥) → true ≡ is_selected_at s b bs at y → Shown y → least (fits_at s b bs at) y (suc b.lines - y) ≡ y
           go y m q (found z i j k f) =

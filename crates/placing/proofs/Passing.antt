@@ -77,8 +77,8 @@ module _ (s : Service) (bs book : List ℕ) where
           ∙ tested_next t.seen stop k (home_at s (guide_of book) bs at) (homes_from s bs book (n - (k + 1)) next.at)
           ∙ ap (λ (y : ℕ). cond (eqb y 0) (NoHome (k + 1)) (From (t.seen ++ (y ∷ [])) (first_stop stop (alive (t.seen ++ (y ∷ []))) (k + 1)) (k + 1) n next.at)) (sym here)
 
-      pub test-homeless : h ≡ 0 → NoHome (k + 1) ≡ tested (plan_in book) (homes_from s bs book n 0)
-      test-homeless z = sym (turn ∙ simp (eq-eqb h 0 z)) ∙ t.same
+      pub test_homeless : h ≡ 0 → NoHome (k + 1) ≡ tested (plan_in book) (homes_from s bs book n 0)
+      test_homeless z = sym (turn ∙ simp (eq-eqb h 0 z)) ∙ t.same
 
       pub test_on : (moved : Walk) (then : ℕ) (live : Bool) → (h ≡ 0 → ⊥) → ((hs : List ℕ) → StandsFor (plan_in book) hs walk → StandsFor (plan_in book) (hs ++ (h ∷ [])) moved)
           → ((b : Plan) (hs : List ℕ) → StandsFor b hs moved → live ≡ is_alive (walked b start hs)) → then ≡ first_stop stop live (k + 1) → Testing n moved then (k + 1) next.at

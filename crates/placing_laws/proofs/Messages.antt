@@ -49,32 +49,32 @@ module _ (s : Service) (service : GoodService s) where
   module _ (bs : List ℕ) (w : WellFormed s bs) where
     module _ (book : List ℕ) (good : GoodBook book) where
       -- and each segment's home
-      pub found-homes : homes_from s bs book (length w.message) 0 ≡ homes_in book w.message
-      found-homes =
+      pub found_homes : homes_from s bs book (length w.message) 0 ≡ homes_in book w.message
+      found_homes =
           ap (map (home_at s (guide_of book) bs)) (found_starts s service bs w) ∙ ap (λ (x : List ℕ). map (home_at s (guide_of book) x) (starts_of s w.message)) w.same
           ∙ homes_found book good w.message [] w.valid.segments
 
       -- the test pass: numbers 10 and 11, of the message's homes
-      pub tested-message : Means (plan_in book) (homes_in book w.message) (tested (plan_in book) (homes_from s bs book (length w.message) 0))
-      tested-message =
-          subst (λ (hs : List ℕ). Means (plan_in book) (homes_in book w.message) (tested (plan_in book) hs)) (sym found-homes)
+      pub tested_message : Means (plan_in book) (homes_in book w.message) (tested (plan_in book) (homes_from s bs book (length w.message) 0))
+      tested_message =
+          subst (λ (hs : List ℕ). Means (plan_in book) (homes_in book w.message) (tested (plan_in book) hs)) (sym found_homes)
           (test_means (plan_in book) (structured book good) (homes_in book w.message))
 
       -- the writing pass: n entries, the message's starts, its homes and its tree, and nothing beyond
-      pub starts-table : (table : List ℕ) → length w.message ≤ length table
+      pub starts_table_lem : (table : List ℕ) → length w.message ≤ length table
           → starts_table s bs (length w.message) table ≡ map entry (starts_of s w.message) ++ drop (length w.message) table
-      starts-table table h =
+      starts_table_lem table h =
           ap (λ (xs : List ℕ). sets table 0 (map entry xs)) (found_starts s service bs w)
           ∙ filled (map entry (starts_of s w.message)) table (length w.message) (length-map (starts_of s w.message) entry ∙ starts_long s service w.message []) h
 
-      pub homes-table : (table : List ℕ) → length w.message ≤ length table
+      pub homes_table_lem : (table : List ℕ) → length w.message ≤ length table
           → homes_table s bs book (length w.message) table ≡ homes_in book w.message ++ drop (length w.message) table
-      homes-table table h = ap (sets table 0) found-homes ∙ filled (homes_in book w.message) table (length w.message) (length-map w.message (home_of (guide_of book))) h
+      homes_table_lem table h = ap (sets table 0) found_homes ∙ filled (homes_in book w.message) table (length w.message) (length-map w.message (home_of (guide_of book))) h
 
-      pub parents-table : (t : Placed (plan_in book) (homes_in book w.message)) (table : List ℕ) → length w.message ≤ length table
+      pub parents_table_lem : (t : Placed (plan_in book) (homes_in book w.message)) (table : List ℕ) → length w.message ≤ length table
           → parents_table s bs book (length w.message) table ≡ parents_of t.tree ++ drop (length w.message) table
-      parents-table t table h =
-          let same = ap (noted_parents (plan_in book)) found-homes ∙ tree (plan_in book) (structured book good) (homes_in book w.message) t in
+      parents_table_lem t table h =
+          let same = ap (noted_parents (plan_in book)) found_homes ∙ tree (plan_in book) (structured book good) (homes_in book w.message) t in
           ap (sets table 0) same
           ∙ filled (parents_of t.tree) table (length w.message)
           (ap length (sym (tree (plan_in book) (structured book good) (homes_in book w.message) t)) ∙ noted_long (plan_in book) 0 root_only (homes_in book w.message) ∙ length-map w.message (home_of (guide_of book))) h

@@ -294,39 +294,39 @@ module _ (s : Service) (bs : List ℕ) where
         ending-by known q is e =
             sym (end_turn (held_by opened parted) q at h (held_step s opened parted (get_or bs at 0) ∙ ap (after_held opened parted) (sym k ∙ is) ∙ e)) ∙ i
 
-        pub ending-component : kind ≡ Component → Ending false true (at + 1)
-        ending-component is = ending-on Component false true is (held_component opened parted)
+        pub ending_component : kind ≡ Component → Ending false true (at + 1)
+        ending_component is = ending-on Component false true is (held_component opened parted)
 
         -- the element may end here, if no needless mark stands before
         module _ (marked : Bool) (m : marked ≡ parted) (is : kind ≡ Element) where
-          pub ending-element : marked ≡ false → Ending true false (at + 1)
-          ending-element e = ending-on Element true false is (held_element opened parted ∙ ap (λ (x : Bool). pick x Dead Opened) (sym m ∙ e))
+          pub ending_element : marked ≡ false → Ending true false (at + 1)
+          ending_element e = ending-on Element true false is (held_element opened parted ∙ ap (λ (x : Bool). pick x Dead Opened) (sym m ∙ e))
 
-          pub ending-parted : marked ≡ true → length bs ≡ wanted
-          ending-parted e = ap (or_length bs) (ending-by Element Dead is (held_element opened parted ∙ ap (λ (x : Bool). pick x Dead Opened) (sym m ∙ e)))
+          pub ending_parted : marked ≡ true → length bs ≡ wanted
+          ending_parted e = ap (or_length bs) (ending-by Element Dead is (held_element opened parted ∙ ap (λ (x : Bool). pick x Dead Opened) (sym m ∙ e)))
 
         -- and so may the segment
         module _ (marked : Bool) (m : marked ≡ marked_by s bs next at (was-opened || was-parted)) (is : kind ≡ Terminator) where
-          pub ending-found : marked ≡ false → at ≡ wanted
-          ending-found e =
+          pub ending_found : marked ≡ false → at ≡ wanted
+          ending_found e =
               ap (or_length bs) (ending-by Terminator Start is (held_terminator opened parted ∙ ap (λ (x : Bool). pick x Dead Start) (either ∙ sym m ∙ e)))
 
-          pub ending-marked : marked ≡ true → length bs ≡ wanted
-          ending-marked e =
+          pub ending_marked : marked ≡ true → length bs ≡ wanted
+          ending_marked e =
               ap (or_length bs) (ending-by Terminator Dead is (held_terminator opened parted ∙ ap (λ (x : Bool). pick x Dead Start) (either ∙ sym m ∙ e)))
 
-        pub ending-plain : kind ≡ Plain → Ending false false (at + 1)
-        ending-plain is = ending-on Plain false false is (held_plain opened parted)
+        pub ending_plain : kind ≡ Plain → Ending false false (at + 1)
+        ending_plain is = ending-on Plain false false is (held_plain opened parted)
 
-        pub ending-bad : kind ≡ Other → length bs ≡ wanted
-        ending-bad is = ap (or_length bs) (ending-by Other Dead is (held_other opened parted))
+        pub ending_bad : kind ≡ Other → length bs ≡ wanted
+        ending_bad is = ap (or_length bs) (ending-by Other Dead is (held_other opened parted))
 
         -- a release: the byte behind it decides
         behind-release : kind ≡ Release → end_on s Released (at + 1) (drop (at + 1) bs) ≡ end_on s Opened from (drop from bs)
         behind-release is = ending-by Release Released is (held_release opened parted)
 
-        pub ending-released : kind ≡ Release → (ltb (at + 1) (length bs) && must_release s (get_or bs (at + 1) 0)) ≡ true → Ending false false (at + 2)
-        ending-released is e = go (ltb (at + 1) (length bs)) (must_release s (get_or bs (at + 1) 0)) refl refl e
+        pub ending_released : kind ≡ Release → (ltb (at + 1) (length bs) && must_release s (get_or bs (at + 1) 0)) ≡ true → Ending false false (at + 2)
+        ending_released is e = go (ltb (at + 1) (length bs)) (must_release s (get_or bs (at + 1) 0)) refl refl e
           where
             go : (x y : Bool) → ltb (at + 1) (length bs) ≡ x → must_release s (get_or bs (at + 1) 0) ≡ y → (x && y) ≡ true → Ending false false (at + 2)
             go true true a b c =
@@ -336,8 +336,8 @@ module _ (s : Service) (bs : List ℕ) where
             go true false a b c = absurd (true≢false (sym c))
             go false y a b c = absurd (true≢false (sym c))
 
-        pub ending-unreleased : kind ≡ Release → (ltb (at + 1) (length bs) && must_release s (get_or bs (at + 1) 0)) ≡ false → length bs ≡ wanted
-        ending-unreleased is e = ap (or_length bs) (sym (go (ltb (at + 1) (length bs)) (must_release s (get_or bs (at + 1) 0)) refl refl e) ∙ behind-release is)
+        pub ending_unreleased : kind ≡ Release → (ltb (at + 1) (length bs) && must_release s (get_or bs (at + 1) 0)) ≡ false → length bs ≡ wanted
+        ending_unreleased is e = ap (or_length bs) (sym (go (ltb (at + 1) (length bs)) (must_release s (get_or bs (at + 1) 0)) refl refl e) ∙ behind-release is)
           where
             go : (x y : Bool) → ltb (at + 1) (length bs) ≡ x → must_release s (get_or bs (at + 1) 0) ≡ y → (x && y) ≡ false
                 → end_on s Released (at + 1) (drop (at + 1) bs) ≡ Nowhere
@@ -387,8 +387,8 @@ module _ (bs : List ℕ) (at : ℕ) where
       to-second : (s : Service) → segment_end s bs at ≡ end_on s Second (at + 1) (drop (at + 1) bs)
       to-second s = end_turn s bs Start Second at (omega arith) (ap (λ (t : Bool). after_tag t Second) first)
 
-      pub tag-bad-second : is_tag_byte (get_or bs (at + 1) 0) ≡ false → TagOrNone bs at false
-      tag-bad-second e s = to-second s ∙ end_turn s bs Second Dead (at + 1) (omega arith) (ap (λ (t : Bool). after_tag t Third) e)
+      pub tag_bad_second : is_tag_byte (get_or bs (at + 1) 0) ≡ false → TagOrNone bs at false
+      tag_bad_second e s = to-second s ∙ end_turn s bs Second Dead (at + 1) (omega arith) (ap (λ (t : Bool). after_tag t Third) e)
 
       module _ (second : is_tag_byte (get_or bs (at + 1) 0) ≡ true) where
         to-third : (s : Service) → segment_end s bs at ≡ end_on s Third (at + 2) (drop (at + 2) bs)
@@ -397,10 +397,10 @@ module _ (bs : List ℕ) (at : ℕ) where
             ∙ end_at s bs Third (at + 1 + 1) (at + 2) (omega arith)
 
         -- the third byte decides
-        pub tag-third : (t : Bool) → t ≡ is_tag_byte (get_or bs (at + 2) 0) → TagOrNone bs at t
-        tag-third true e = (
+        pub tag_third : (t : Bool) → t ≡ is_tag_byte (get_or bs (at + 2) 0) → TagOrNone bs at t
+        tag_third true e = (
           h,
           λ s. to-third s ∙ end_turn s bs Third Tagged (at + 2) (omega arith) (ap (λ (t : Bool). after_tag t Tagged) (sym e))
               ∙ end_at s bs Tagged (at + 2 + 1) (at + 3) (omega arith),
         )
-        tag-third false e = λ s. to-third s ∙ end_turn s bs Third Dead (at + 2) (omega arith) (ap (λ (t : Bool). after_tag t Tagged) (sym e))
+        tag_third false e = λ s. to-third s ∙ end_turn s bs Third Dead (at + 2) (omega arith) (ap (λ (t : Bool). after_tag t Tagged) (sym e))

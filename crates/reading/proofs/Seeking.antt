@@ -147,26 +147,26 @@ module _ (s : Service) (bs : List ℕ) (from e c : ℕ) where
           ap (sought e c (seek ea ca st false) at) is ∙ ap (λ (t : Bool). pick t (Ends (span st at)) (passed (seek ea ca st false) at known)) n
 
       -- the next one, in the same element or in the next
-      pub seek-component : kind ≡ Component → (eqb ea e && eqb ca c) ≡ false → Seeking s bs from e c (seek ea (ca + 1) (at + 1) released) (at + 1)
+      pub seek_component : kind ≡ Component → (eqb ea e && eqb ca c) ≡ false → Seeking s bs from e c (seek ea (ca + 1) (at + 1) released) (at + 1)
       unfolding is_here
-      seek-component is n = still-free ea (ca + 1) (at + 1) (seeking_on (seek ea ca st false) (seek ea (ca + 1) (at + 1) false) at kind h i ek (sym (passing Component is n)))
+      seek_component is n = still-free ea (ca + 1) (at + 1) (seeking_on (seek ea ca st false) (seek ea (ca + 1) (at + 1) false) at kind h i ek (sym (passing Component is n)))
 
-      pub seek-element : kind ≡ Element → (eqb ea e && eqb ca c) ≡ false → Seeking s bs from e c (seek (ea + 1) 1 (at + 1) released) (at + 1)
+      pub seek_element : kind ≡ Element → (eqb ea e && eqb ca c) ≡ false → Seeking s bs from e c (seek (ea + 1) 1 (at + 1) released) (at + 1)
       unfolding is_here
-      seek-element is n = still-free (ea + 1) 1 (at + 1) (seeking_on (seek ea ca st false) (seek (ea + 1) 1 (at + 1) false) at kind h i ek (sym (passing Element is n)))
+      seek_element is n = still-free (ea + 1) 1 (at + 1) (seeking_on (seek ea ca st false) (seek (ea + 1) 1 (at + 1) false) at kind h i ek (sym (passing Element is n)))
 
-      pub seek-release : kind ≡ Release → Seeking s bs from e c (seek ea ca st true) (at + 1)
-      seek-release is = seeking_on (seek ea ca st false) (seek ea ca st true) at kind h i ek (sym (passing Release is refl))
+      pub seek_release : kind ≡ Release → Seeking s bs from e c (seek ea ca st true) (at + 1)
+      seek_release is = seeking_on (seek ea ca st false) (seek ea ca st true) at kind h i ek (sym (passing Release is refl))
 
-      pub seek-plain : kind ≡ Plain → Seeking s bs from e c (seek ea ca st released) (at + 1)
-      seek-plain is = still-free ea ca st (seeking_on (seek ea ca st false) (seek ea ca st false) at kind h i ek (sym (passing Plain is refl)))
+      pub seek_plain : kind ≡ Plain → Seeking s bs from e c (seek ea ca st released) (at + 1)
+      seek_plain is = still-free ea ca st (seeking_on (seek ea ca st false) (seek ea ca st false) at kind h i ek (sym (passing Plain is refl)))
 
-      pub seek-other : kind ≡ Other → Seeking s bs from e c (seek ea ca st released) (at + 1)
-      seek-other is = still-free ea ca st (seeking_on (seek ea ca st false) (seek ea ca st false) at kind h i ek (sym (passing Other is refl)))
+      pub seek_other : kind ≡ Other → Seeking s bs from e c (seek ea ca st released) (at + 1)
+      seek_other is = still-free ea ca st (seeking_on (seek ea ca st false) (seek ea ca st false) at kind h i ek (sym (passing Other is refl)))
 
       -- a byte that need not be released is one of these two
-      pub seek-text : must_release s (get_or bs at 0) ≡ false → Seeking s bs from e c (seek ea ca st released) (at + 1)
-      seek-text t = ⊎_elim (λ p. seek-plain (ek ∙ p)) (λ p. seek-other (ek ∙ p)) (unmarked s (get_or bs at 0) t)
+      pub seek_text : must_release s (get_or bs at 0) ≡ false → Seeking s bs from e c (seek ea ca st released) (at + 1)
+      seek_text t = ⊎_elim (λ p. seek_plain (ek ∙ p)) (λ p. seek_other (ek ∙ p)) (unmarked s (get_or bs at 0) t)
 
       -- the one that is sought ends; and at the terminator an absent one lies
       pub seek_found : (known : Kind) → kind ≡ known → ends_component known ≡ true → (eqb ea e && eqb ca c) ≡ true → span st at ≡ seek_from s bs from e c
@@ -175,9 +175,9 @@ module _ (s : Service) (bs : List ℕ) (from e c : ℕ) where
           seeking_lies (seek ea ca st false) at kind (span st at) h i ek
           (sym (ap (sought e c (seek ea ca st false) at) is ∙ ap₂ (λ (t u : Bool). pick (t && u) (Ends (span st at)) (passed (seek ea ca st false) at known)) ends here))
 
-      pub seek-absent : (x : Span) → kind ≡ Terminator → (eqb ea e && eqb ca c) ≡ false → x ≡ span at at → x ≡ seek_from s bs from e c
+      pub seek_absent : (x : Span) → kind ≡ Terminator → (eqb ea e && eqb ca c) ≡ false → x ≡ span at at → x ≡ seek_from s bs from e c
       unfolding is_here
-      seek-absent x is n y = y ∙ seeking_lies (seek ea ca st false) at kind (span at at) h i ek (sym (passing Terminator is n))
+      seek_absent x is n y = y ∙ seeking_lies (seek ea ca st false) at kind (span at at) h i ek (sym (passing Terminator is n))
 
 -- ---- a component lies within the message
 

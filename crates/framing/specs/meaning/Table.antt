@@ -61,31 +61,19 @@ TellsCount m = (unt : Segment) → IsLast m unt → InDecimal (length m) (value_
 abbrev pub TellsReference : Message → Type 0
 TellsReference m = (unh unt : Segment) → IsFirst m unh → IsLast m unt → value_at unt 2 1 ≡ value_at unh 1 1
 
--- ---- numbers 3 to 6 in their order. HasRoomFor: the test of number 6; of a message that has none of these faults `Rest` says what the answer is
-
-module _ (HasRoomFor : Message → Type 0) (Rest : Message → Verdict → Type 0) where
-  -- 5 and 6
-  abbrev pub CountSays : Message → Verdict → Type 0
-  CountSays m v = Unless (length m ≤ most_segments) (v ≡ answer 5 0) (Unless (HasRoomFor m) (v ≡ answer 6 (length m)) (Rest m v))
-
-  -- 3 and 4
-  abbrev pub ReadingSays : Service → List ℕ → Verdict → Type 0
-  ReadingSays s bs v =
-      Unless (Sized bs) (v ≡ answer 3 0) (((k : ℕ) × FirstBad s bs k × (v ≡ answer 4 k)) ⊎ ((w : WellFormed s bs) × CountSays w.message v))
-
--- ---- numbers 3 to 9; of a message that has none of these faults `Rest` says what the answer is
+-- ---- numbers 3 to 9 in their order; of a message that has none of these faults `Rest` says what the answer is
 
 module _ (s : Service) (bs : List ℕ) (room : Room) (Rest : Message → Verdict → Type 0) where
-  -- 7 to 9
-  abbrev pub FrameSays : Message → Verdict → Type 0
-  FrameSays m v =
-      ((k : ℕ) × FirstWrong (Misplaced (length m)) 0 m k × (v ≡ answer 7 k))
-      ⊎ (NoneWrong (Misplaced (length m)) 0 m
-      × Unless (TellsCount m) (v ≡ answer 8 (length m)) (Unless (TellsReference m) (v ≡ answer 9 (length m)) (Rest m v)))
-
   -- 5 to 9
   abbrev pub MessageSays : Message → Verdict → Type 0
-  MessageSays = CountSays (λ m. HasRoom room (length m)) FrameSays
+  MessageSays m v =
+      Unless (length m ≤ most_segments) (v ≡ answer 5 0)
+      (Unless (HasRoom room (length m)) (v ≡ answer 6 (length m))
+      (((k : ℕ) × FirstWrong (Misplaced (length m)) 0 m k × (v ≡ answer 7 k))
+      ⊎ (NoneWrong (Misplaced (length m)) 0 m
+      × Unless (TellsCount m) (v ≡ answer 8 (length m)) (Unless (TellsReference m) (v ≡ answer 9 (length m)) (Rest m v)))))
 
+  -- 3 and 4
   abbrev pub BytesSay : Verdict → Type 0
-  BytesSay = ReadingSays (λ m. HasRoom room (length m)) FrameSays s bs
+  BytesSay v =
+      Unless (Sized bs) (v ≡ answer 3 0) (((k : ℕ) × FirstBad s bs k × (v ≡ answer 4 k)) ⊎ ((w : WellFormed s bs) × MessageSays w.message v))

@@ -7,7 +7,7 @@ use Rattle.reading.specs.meaning.Starts.{starts_of}
 use Rattle.reading.specs.declared.service.Service.{Service}
 use Rattle.framing.specs.meaning.Limits.{most_segments}
 use Rattle.framing.specs.meaning.Record.{answer}
-use Rattle.framing.specs.meaning.Table.{ReadingSays}
+use Rattle.pieces.specs.meaning.Table.{ReadingSays}
 use Rattle.framing.specs.declared.verdict.Verdict.{Verdict}
 use Rattle.pieces.specs.meaning.Calls.{state_length, goes_on_answer, no_state, Left, PieceCall, EndCall, Answers, Unanswered, IsVerdict}
 use Rattle.pieces.specs.meaning.Starts.{Finished, FoundEntry, StartsLeft}

@@ -2,7 +2,7 @@ use native.Mathlib.Omega.{arith}
 use mathlib.Core.Path.{sym, ◌∙◌}
 use Rattle.guide.specs.meaning.Guide.{guide_of}
 use Rattle.fields.proofs.Cutting.{reads_inside}
-use Rattle.fields.proofs.Stepping.{going_begin, going-broken, going_on, going-closed}
+use Rattle.fields.proofs.Stepping.{going_begin, going_broken, going_on, going_closed}
 use Rattle.fields.proofs.element.test_components.Goals as goal
 
 pub loop-fault-init : goal.loop-fault-init
@@ -35,7 +35,7 @@ returns-in-Fault c =
     let loop = c.loop-fault in
     let read-component = c.read_component-part in
     let args = c.args in
-    going-broken args.service (guide_of args.book.now) args.message.now args.from args.some args.element args.first args.last loop.component loop.start loop.field loop.invariant _ read-component.ensures _ test-component.ensures _ c.in-Fault.is
+    going_broken args.service (guide_of args.book.now) args.message.now args.from args.some args.element args.first args.last loop.component loop.start loop.field loop.invariant _ read-component.ensures _ test-component.ensures _ c.in-Fault.is
 
 pub returns-then-not-opens_component : goal.returns-then-not-opens_component
 returns-then-not-opens_component c =
@@ -44,7 +44,7 @@ returns-then-not-opens_component c =
     let loop = c.loop-fault in
     let read-component = c.read_component-part in
     let args = c.args in
-    going-closed args.service (guide_of args.book.now) args.message.now args.from args.some args.element args.first args.last loop.component loop.start loop.field loop.invariant _ read-component.ensures _ test-component.ensures _ next.is (sym c.opens_component.ensures ∙ c.if-not-opens_component.true)
+    going_closed args.service (guide_of args.book.now) args.message.now args.from args.some args.element args.first args.last loop.component loop.start loop.field loop.invariant _ read-component.ensures _ test-component.ensures _ next.is (sym c.opens_component.ensures ∙ c.if-not-opens_component.true)
 
 pub overflow_add-component : goal.overflow_add-component
 overflow_add-component c =

@@ -1,7 +1,7 @@
 use native.Mathlib.Omega.{arith}
 use mathlib.Core.Path.{refl, sym, ◌∙◌}
 use Rattle.guide.specs.meaning.Guide.{guide_of}
-use Rattle.fields.proofs.Stepping.{passing_begin, passing-inside, passing-broken, passing-later, passing-on, passing_done}
+use Rattle.fields.proofs.Stepping.{passing_begin, passing_inside, passing_broken, passing_later, passing_on, passing_done}
 use Rattle.fields.proofs.fault.find_fault.Goals as goal
 
 pub skip_to_element-end-requires : goal.skip_to_element-end-requires
@@ -28,19 +28,19 @@ pub overflow_add-element : goal.overflow_add-element
 overflow_add-element c =
     let loop = c.loop-service in
     let args = c.args in
-    let n = passing-inside args.service (guide_of args.book.now) args.message.now args.at args.line _ loop.element loop.end loop.field loop.invariant.0 (sym c.opens_element.ensures ∙ c.if-not-opens_element.false) in let m = loop.invariant.0.counted in omega arith
+    let n = passing_inside args.service (guide_of args.book.now) args.message.now args.at args.line _ loop.element loop.end loop.field loop.invariant.0 (sym c.opens_element.ensures ∙ c.if-not-opens_element.false) in let m = loop.invariant.0.counted in omega arith
 
 pub overflow_add-end : goal.overflow_add-end
 overflow_add-end c =
     let loop = c.loop-service in
     let args = c.args in
-    let n = passing-inside args.service (guide_of args.book.now) args.message.now args.at args.line _ loop.element loop.end loop.field loop.invariant.0 (sym c.opens_element.ensures ∙ c.if-not-opens_element.false) in omega arith
+    let n = passing_inside args.service (guide_of args.book.now) args.message.now args.at args.line _ loop.element loop.end loop.field loop.invariant.0 (sym c.opens_element.ensures ∙ c.if-not-opens_element.false) in omega arith
 
 pub test_element-requires : goal.test_element-requires
 test_element-requires c =
     let loop = c.loop-service in
     let args = c.args in
-    let n = passing-inside args.service (guide_of args.book.now) args.message.now args.at args.line _ loop.element loop.end loop.field loop.invariant.0 (sym c.opens_element.ensures ∙ c.if-not-opens_element.false) in (omega arith, loop.invariant.0.few, loop.invariant.1)
+    let n = passing_inside args.service (guide_of args.book.now) args.message.now args.at args.line _ loop.element loop.end loop.field loop.invariant.0 (sym c.opens_element.ensures ∙ c.if-not-opens_element.false) in (omega arith, loop.invariant.0.few, loop.invariant.1)
 
 pub returns-in-Fault : goal.returns-in-Fault
 returns-in-Fault c =
@@ -49,7 +49,7 @@ returns-in-Fault c =
     let loop = c.loop-service in
     let opens-element = c.opens_element in
     let args = c.args in
-    passing-broken args.service (guide_of args.book.now) args.message.now args.at args.line _ loop.element loop.end loop.field loop.invariant.0 (sym opens-element.ensures ∙ if1.false) _ test-element.ensures _ c.in-Fault.is
+    passing_broken args.service (guide_of args.book.now) args.message.now args.at args.line _ loop.element loop.end loop.field loop.invariant.0 (sym opens-element.ensures ∙ if1.false) _ test-element.ensures _ c.in-Fault.is
 
 pub loop-service-smaller : goal.loop-service-smaller
 loop-service-smaller c =
@@ -58,7 +58,7 @@ loop-service-smaller c =
     let loop = c.loop-service in
     let opens-element = c.opens_element in
     let args = c.args in
-    let n = passing-later args.service (guide_of args.book.now) args.message.now args.at args.line _ loop.element loop.end loop.field loop.invariant.0 (sym opens-element.ensures ∙ if1.false) _ test-element.ensures _ _ c.in-Closed.is in omega arith
+    let n = passing_later args.service (guide_of args.book.now) args.message.now args.at args.line _ loop.element loop.end loop.field loop.invariant.0 (sym opens-element.ensures ∙ if1.false) _ test-element.ensures _ _ c.in-Closed.is in omega arith
 
 pub loop-service-preserved : goal.loop-service-preserved
 loop-service-preserved c =
@@ -67,4 +67,4 @@ loop-service-preserved c =
     let loop = c.loop-service in
     let opens-element = c.opens_element in
     let args = c.args in
-    (passing-on args.service (guide_of args.book.now) args.message.now args.at args.line _ loop.element loop.end loop.field loop.invariant.0 (sym opens-element.ensures ∙ if1.false) _ test-element.ensures _ _ c.in-Closed.is, loop.invariant.1)
+    (passing_on args.service (guide_of args.book.now) args.message.now args.at args.line _ loop.element loop.end loop.field loop.invariant.0 (sym opens-element.ensures ∙ if1.false) _ test-element.ensures _ _ c.in-Closed.is, loop.invariant.1)

@@ -1,5 +1,5 @@
 use Rattle.guide.specs.meaning.Guide.{guide_of}
-use Rattle.fields.proofs.Segments.{testing_begin, testing-starts, testing-homes, testing-done, testing-found, testing-on}
+use Rattle.fields.proofs.Segments.{testing_begin, testing_starts, testing_homes, testing_done, testing_found, testing_on}
 use Rattle.fields.proofs.passes.test_fields.Goals as goal
 
 pub loop-place-init : goal.loop-place-init
@@ -11,13 +11,13 @@ pub returns-then-at-starts : goal.returns-then-at-starts
 returns-then-at-starts c =
     let loop = c.loop-place in
     let args = c.args in
-    (testing-starts args.service (guide_of args.book.now) args.message.now args.segments args.starts.now args.homes.now loop.place loop.invariant c.if-at-starts.true, tt)
+    (testing_starts args.service (guide_of args.book.now) args.message.now args.segments args.starts.now args.homes.now loop.place loop.invariant c.if-at-starts.true, tt)
 
 pub returns-then-at-homes : goal.returns-then-at-homes
 returns-then-at-homes c =
     let loop = c.loop-place in
     let args = c.args in
-    (testing-homes args.service (guide_of args.book.now) args.message.now args.segments args.starts.now args.homes.now loop.place loop.invariant c.if-at-homes.true, tt)
+    (testing_homes args.service (guide_of args.book.now) args.message.now args.segments args.starts.now args.homes.now loop.place loop.invariant c.if-at-homes.true, tt)
 
 pub returns-in-At : goal.returns-in-At
 returns-in-At c =
@@ -27,7 +27,7 @@ returns-in-At c =
     let loop-test = c.loop-place-test in
     let loop = c.loop-place in
     let args = c.args in
-    testing-found args.service (guide_of args.book.now) args.message.now args.segments args.starts.now args.homes.now loop.place loop.invariant loop-test.true if1.false if2.false _ find-fault.ensures _ _ c.in-At.is
+    testing_found args.service (guide_of args.book.now) args.message.now args.segments args.starts.now args.homes.now loop.place loop.invariant loop-test.true if1.false if2.false _ find-fault.ensures _ _ c.in-At.is
 
 pub loop-place-preserved : goal.loop-place-preserved
 loop-place-preserved c =
@@ -37,9 +37,9 @@ loop-place-preserved c =
     let loop-test = c.loop-place-test in
     let loop = c.loop-place in
     let args = c.args in
-    testing-on args.service (guide_of args.book.now) args.message.now args.segments args.starts.now args.homes.now loop.place loop.invariant loop-test.true if1.false if2.false _ find-fault.ensures c.in-Clean.is
+    testing_on args.service (guide_of args.book.now) args.message.now args.segments args.starts.now args.homes.now loop.place loop.invariant loop-test.true if1.false if2.false _ find-fault.ensures c.in-Clean.is
 
 pub returns : goal.returns
 returns c =
     let args = c.args in
-    (testing-done args.service (guide_of args.book.now) args.message.now args.segments args.starts.now args.homes.now c.loop-place.place c.loop-place.invariant c.loop-place-test.false, tt)
+    (testing_done args.service (guide_of args.book.now) args.message.now args.segments args.starts.now args.homes.now c.loop-place.place c.loop-place.invariant c.loop-place-test.false, tt)

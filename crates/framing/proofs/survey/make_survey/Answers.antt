@@ -1,7 +1,7 @@
 use native.Mathlib.Omega.{arith}
 use mathlib.Core.Path.{sym, ◌∙◌}
 use Rattle.reading.proofs.Ending.{end_within}
-use Rattle.framing.proofs.Frames.{surveying_begin, surveying_on, surveying_bad, surveying-empty, surveying-end}
+use Rattle.framing.proofs.Frames.{surveying_begin, surveying_on, surveying_bad, surveying_empty, surveying_end}
 use Rattle.framing.proofs.survey.make_survey.Goals as goal
 
 pub loop-at-init : goal.loop-at-init
@@ -59,7 +59,7 @@ pub returns-then-segments-eq0 : goal.returns-then-segments-eq0
 returns-then-segments-eq0 c =
     let loop = c.loop-at in
     let args = c.args in
-    surveying-empty args.service args.message.now loop.segments loop.misplaced loop.last loop.at loop.invariant c.loop-at-test.false c.if-segments-eq0.true
+    surveying_empty args.service args.message.now loop.segments loop.misplaced loop.last loop.at loop.invariant c.loop-at-test.false c.if-segments-eq0.true
 
 pub returns : goal.returns
 returns c =
@@ -68,4 +68,4 @@ returns c =
     let loop-test = c.loop-at-test in
     let loop = c.loop-at in
     let args = c.args in
-    surveying-end args.service args.message.now loop.segments loop.misplaced loop.last loop.at loop.invariant loop-test.false if1.false _ _ _ tag-at2.ensures.0 c.first_misplaced-misplaced-2.ensures c.frame_of.ensures
+    surveying_end args.service args.message.now loop.segments loop.misplaced loop.last loop.at loop.invariant loop-test.false if1.false _ _ _ tag-at2.ensures.0 c.first_misplaced-misplaced-2.ensures c.frame_of.ensures

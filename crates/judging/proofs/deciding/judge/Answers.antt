@@ -1,6 +1,6 @@
 -- `deciding::judge` meets its contract: a refusal leaves the tables alone, and after it nothing is refused.
 use Rattle.judging.specs.meaning.Tables.{tables}
-use Rattle.judging.proofs.Decided.{decided_refused, decided-placed, within}
+use Rattle.judging.proofs.Decided.{decided_refused, decided_placed, within}
 use Rattle.judging.proofs.deciding.judge.Goals as goal
 
 pub returns-then-refusal-ne0 : goal.returns-then-refusal-ne0
@@ -22,4 +22,4 @@ returns c =
     let if1 = c.if-refusal-ne0 in
     let refuse = c.refuse-refusal in
     let args = c.args in
-    decided-placed args.service args.message.now args.book.now args.conditions.now (tables args.starts.now args.homes.now args.parents.now) _ refuse.ensures if1.false _ _ _ write_tree.ensures.0 write_tree.ensures.1 write_tree.ensures.2 _ (c.placed_stage.ensures)
+    decided_placed args.service args.message.now args.book.now args.conditions.now (tables args.starts.now args.homes.now args.parents.now) _ refuse.ensures if1.false _ _ _ write_tree.ensures.0 write_tree.ensures.1 write_tree.ensures.2 _ (c.placed_stage.ensures)

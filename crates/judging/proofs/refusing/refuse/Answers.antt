@@ -1,5 +1,5 @@
 -- `refusing::refuse` meets its contract: the first stage that answers a fault is the answer.
-use Rattle.judging.proofs.Refusals.{refused_book, refused-conditions, refused-message, refused-placing}
+use Rattle.judging.proofs.Refusals.{refused_book, refused_conditions, refused_message, refused_placing}
 use Rattle.judging.proofs.refusing.refuse.Goals as goal
 
 pub returns-then-of_book-ne0 : goal.returns-then-of_book-ne0
@@ -14,7 +14,7 @@ returns-then-of_conditions-ne0 c =
     let conditions-stage = c.conditions_stage-of_conditions in
     let book-stage = c.book_stage-of_book in
     let args = c.args in
-    refused-conditions args.service args.message.now args.book.now args.conditions.now args.room _ book-stage.ensures if1.false _ conditions-stage.ensures (c.if-of_conditions-ne0.true)
+    refused_conditions args.service args.message.now args.book.now args.conditions.now args.room _ book-stage.ensures if1.false _ conditions-stage.ensures (c.if-of_conditions-ne0.true)
 
 pub returns-then-of_message-ne0 : goal.returns-then-of_message-ne0
 returns-then-of_message-ne0 c =
@@ -24,7 +24,7 @@ returns-then-of_message-ne0 c =
     let conditions-stage = c.conditions_stage-of_conditions in
     let book-stage = c.book_stage-of_book in
     let args = c.args in
-    refused-message args.service args.message.now args.book.now args.conditions.now args.room _ book-stage.ensures if1.false _ conditions-stage.ensures if2.false _ message_stage.ensures (c.if-of_message-ne0.true)
+    refused_message args.service args.message.now args.book.now args.conditions.now args.room _ book-stage.ensures if1.false _ conditions-stage.ensures if2.false _ message_stage.ensures (c.if-of_message-ne0.true)
 
 pub returns : goal.returns
 returns c =
@@ -34,4 +34,4 @@ returns c =
     let conditions-stage = c.conditions_stage-of_conditions in
     let book-stage = c.book_stage-of_book in
     let args = c.args in
-    refused-placing args.service args.message.now args.book.now args.conditions.now args.room _ book-stage.ensures if1.false _ conditions-stage.ensures if2.false _ message_stage.ensures (c.if-of_message-ne0.false) _ (c.placing_stage.ensures)
+    refused_placing args.service args.message.now args.book.now args.conditions.now args.room _ book-stage.ensures if1.false _ conditions-stage.ensures if2.false _ message_stage.ensures (c.if-of_message-ne0.false) _ (c.placing_stage.ensures)

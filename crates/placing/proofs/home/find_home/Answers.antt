@@ -2,7 +2,7 @@
 use native.Mathlib.Omega.{arith}
 use mathlib.Core.Path.{◌∙◌}
 use Rattle.guide.specs.meaning.Guide.{guide_of}
-use Rattle.placing.proofs.Finding.{end_within, home-past, home-first, home_here}
+use Rattle.placing.proofs.Finding.{end_within, home_past, home_first, home_here}
 use Rattle.placing.proofs.home.find_home.Goals as goal
 
 pub overflow_cast-end : goal.overflow_cast-end
@@ -23,7 +23,7 @@ returns-then-first-eq0 c =
     let tag_at = c.tag_at-tag in
     let pre = c.requires in
     let args = c.args in
-    c.find_from.ensures ∙ home-past (guide_of args.book.now) args.service args.message.now args.at _ tag_at.ensures.0 tag_at.ensures.1 args.end args.tags.now pre.1 _ first-of-tag.ensures c.if-first-eq0.true
+    c.find_from.ensures ∙ home_past (guide_of args.book.now) args.service args.message.now args.at _ tag_at.ensures.0 tag_at.ensures.1 args.end args.tags.now pre.1 _ first-of-tag.ensures c.if-first-eq0.true
 
 pub returns-then-selector_element-eq0 : goal.returns-then-selector_element-eq0
 returns-then-selector_element-eq0 c =
@@ -47,4 +47,4 @@ returns c =
     let tag_at = c.tag_at-tag in
     let pre = c.requires in
     let args = c.args in
-    c.find_from-2.ensures ∙ home-first (guide_of args.book.now) args.service args.message.now args.at _ tag_at.ensures.0 tag_at.ensures.1 args.end args.tags.now pre.1 _ first-of-tag.ensures if1.false
+    c.find_from-2.ensures ∙ home_first (guide_of args.book.now) args.service args.message.now args.at _ tag_at.ensures.0 tag_at.ensures.1 args.end args.tags.now pre.1 _ first-of-tag.ensures if1.false

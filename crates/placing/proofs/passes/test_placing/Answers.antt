@@ -5,7 +5,7 @@ use Rattle.guide.specs.meaning.Guide.{guide_of}
 use Rattle.guide.specs.meaning.Plan.{plan_in}
 use Rattle.placing.proofs.Finding.{home_line}
 use Rattle.reading.proofs.Starts.{found_within}
-use Rattle.placing.proofs.Passing.{test_begin, test-homeless, test_on, test_nothing, test_end}
+use Rattle.placing.proofs.Passing.{test_begin, test_homeless, test_on, test_nothing, test_end}
 use Rattle.placing.proofs.passes.test_placing.Goals as goal
 
 pub tags_of-tags-requires : goal.tags_of-tags-requires
@@ -32,7 +32,7 @@ returns-then-home-eq0 c =
     let loop-test = c.loop-place-test in
     let loop = c.loop-place in
     let args = c.args in
-    test-homeless args.service args.message.now args.book.now args.segments loop.walk loop.stop loop.place _ loop.invariant _ _ _ loop-test.true (sym next.is ∙ next_segment.ensures) c.find_home-home.ensures c.if-home-eq0.true
+    test_homeless args.service args.message.now args.book.now args.segments loop.walk loop.stop loop.place _ loop.invariant _ _ _ loop-test.true (sym next.is ∙ next_segment.ensures) c.find_home-home.ensures c.if-home-eq0.true
 
 pub advance-moved-requires : goal.advance-moved-requires
 advance-moved-requires c =

@@ -1,6 +1,6 @@
 use native.Mathlib.Omega.{arith}
 use mathlib.Core.Path.{refl, sym, ◌∙◌}
-use Rattle.reading.proofs.Seeking.{seeking_begin, seek_released, seek-component, seek-element, seek-release, seek-plain, seek-other, seek-text, seek_found, seek-absent, seeking_out}
+use Rattle.reading.proofs.Seeking.{seeking_begin, seek_released, seek_component, seek_element, seek_release, seek_plain, seek_other, seek_text, seek_found, seek_absent, seeking_out}
 use Rattle.reading.proofs.lookup.seek_from.Goals as goal
 
 pub loop-position-init : goal.loop-position-init
@@ -42,7 +42,7 @@ loop-position-preserved-in-Component c =
     let loop-test = c.loop-position-test in
     let loop = c.loop-position in
     let args = c.args in
-    seek-component args.service args.message.now args.from args.element args.component loop.elements loop.components loop.start loop.position _ loop-test.true kind_of.ensures loop.released if1.false loop.invariant enum_told.is (sym c.is_here.ensures ∙ c.if-is_here.false)
+    seek_component args.service args.message.now args.from args.element args.component loop.elements loop.components loop.start loop.position _ loop-test.true kind_of.ensures loop.released if1.false loop.invariant enum_told.is (sym c.is_here.ensures ∙ c.if-is_here.false)
 
 pub returns-then-is_here-2 : goal.returns-then-is_here-2
 returns-then-is_here-2 c =
@@ -73,7 +73,7 @@ loop-position-preserved-in-Element c =
     let loop-test = c.loop-position-test in
     let loop = c.loop-position in
     let args = c.args in
-    seek-element args.service args.message.now args.from args.element args.component loop.elements loop.components loop.start loop.position _ loop-test.true kind_of.ensures loop.released if1.false loop.invariant enum-told2.is (sym c.is_here-in-Element.ensures ∙ c.if-is_here-2.false)
+    seek_element args.service args.message.now args.from args.element args.component loop.elements loop.components loop.start loop.position _ loop-test.true kind_of.ensures loop.released if1.false loop.invariant enum-told2.is (sym c.is_here-in-Element.ensures ∙ c.if-is_here-2.false)
 
 pub returns-then-is_here-3 : goal.returns-then-is_here-3
 returns-then-is_here-3 c =
@@ -94,7 +94,7 @@ returns-in-Terminator c =
     let loop-test = c.loop-position-test in
     let loop = c.loop-position in
     let args = c.args in
-    seek-absent args.service args.message.now args.from args.element args.component loop.elements loop.components loop.start loop.position _ loop-test.true kind_of.ensures loop.released if1.false loop.invariant _ enum-told3.is (sym is-here3.ensures ∙ c.if-is_here-3.false) c.empty_at.ensures
+    seek_absent args.service args.message.now args.from args.element args.component loop.elements loop.components loop.start loop.position _ loop-test.true kind_of.ensures loop.released if1.false loop.invariant _ enum-told3.is (sym is-here3.ensures ∙ c.if-is_here-3.false) c.empty_at.ensures
 
 pub loop-position-preserved-in-Release : goal.loop-position-preserved-in-Release
 loop-position-preserved-in-Release c =
@@ -103,7 +103,7 @@ loop-position-preserved-in-Release c =
     let loop-test = c.loop-position-test in
     let loop = c.loop-position in
     let args = c.args in
-    seek-release args.service args.message.now args.from args.element args.component loop.elements loop.components loop.start loop.position _ loop-test.true kind_of.ensures loop.released if1.false loop.invariant c.in-Release.is
+    seek_release args.service args.message.now args.from args.element args.component loop.elements loop.components loop.start loop.position _ loop-test.true kind_of.ensures loop.released if1.false loop.invariant c.in-Release.is
 
 pub loop-position-preserved-in-Plain : goal.loop-position-preserved-in-Plain
 loop-position-preserved-in-Plain c =
@@ -112,7 +112,7 @@ loop-position-preserved-in-Plain c =
     let loop-test = c.loop-position-test in
     let loop = c.loop-position in
     let args = c.args in
-    seek-plain args.service args.message.now args.from args.element args.component loop.elements loop.components loop.start loop.position _ loop-test.true kind_of.ensures loop.released if1.false loop.invariant c.in-Plain.is
+    seek_plain args.service args.message.now args.from args.element args.component loop.elements loop.components loop.start loop.position _ loop-test.true kind_of.ensures loop.released if1.false loop.invariant c.in-Plain.is
 
 pub loop-position-preserved-in-Other : goal.loop-position-preserved-in-Other
 loop-position-preserved-in-Other c =
@@ -121,7 +121,7 @@ loop-position-preserved-in-Other c =
     let loop-test = c.loop-position-test in
     let loop = c.loop-position in
     let args = c.args in
-    seek-other args.service args.message.now args.from args.element args.component loop.elements loop.components loop.start loop.position _ loop-test.true kind_of.ensures loop.released if1.false loop.invariant c.in-Other.is
+    seek_other args.service args.message.now args.from args.element args.component loop.elements loop.components loop.start loop.position _ loop-test.true kind_of.ensures loop.released if1.false loop.invariant c.in-Other.is
 
 pub loop-position-preserved : goal.loop-position-preserved
 loop-position-preserved c =
@@ -129,7 +129,7 @@ loop-position-preserved c =
     let loop-test = c.loop-position-test in
     let loop = c.loop-position in
     let args = c.args in
-    seek-text args.service args.message.now args.from args.element args.component loop.elements loop.components loop.start loop.position _ loop-test.true refl loop.released if1.false loop.invariant (sym c.must_release.ensures ∙ c.if-must_release.false)
+    seek_text args.service args.message.now args.from args.element args.component loop.elements loop.components loop.start loop.position _ loop-test.true refl loop.released if1.false loop.invariant (sym c.must_release.ensures ∙ c.if-must_release.false)
 
 pub returns : goal.returns
 returns c =

@@ -1,5 +1,5 @@
 use mathlib.Core.Path.{sym, ◌∙◌}
-use Rattle.reading.proofs.Ending.{ending_none, ending-component, ending-element, ending-parted, ending-found, ending-marked, ending-released, ending-unreleased, ending-plain, ending-bad, ending_out}
+use Rattle.reading.proofs.Ending.{ending_none, ending_component, ending_element, ending_parted, ending_found, ending_marked, ending_released, ending_unreleased, ending_plain, ending_bad, ending_out}
 use Rattle.reading.proofs.segment.end_inside.Goals as goal
 
 pub returns-then-message-at : goal.returns-then-message-at
@@ -16,7 +16,7 @@ loop-next-preserved-in-Component c =
     let pass-text = c.pass_text-at in
     let loop = c.loop-next in
     let args = c.args in
-    ending-component args.service args.message.now args.from loop.opened loop.parted loop.next _ loop.invariant pass-text.ensures if1.false _ kind_of.ensures c.in-Component.is
+    ending_component args.service args.message.now args.from loop.opened loop.parted loop.next _ loop.invariant pass-text.ensures if1.false _ kind_of.ensures c.in-Component.is
 
 pub returns-then-is_marked : goal.returns-then-is_marked
 returns-then-is_marked c =
@@ -27,7 +27,7 @@ returns-then-is_marked c =
     let pass-text = c.pass_text-at in
     let loop = c.loop-next in
     let args = c.args in
-    ending-parted args.service args.message.now args.from loop.opened loop.parted loop.next _ loop.invariant pass-text.ensures if1.false _ kind_of.ensures _ is-marked.ensures enum-told2.is c.if-is_marked.true
+    ending_parted args.service args.message.now args.from loop.opened loop.parted loop.next _ loop.invariant pass-text.ensures if1.false _ kind_of.ensures _ is-marked.ensures enum-told2.is c.if-is_marked.true
 
 pub loop-next-preserved-in-Element : goal.loop-next-preserved-in-Element
 loop-next-preserved-in-Element c =
@@ -38,7 +38,7 @@ loop-next-preserved-in-Element c =
     let pass-text = c.pass_text-at in
     let loop = c.loop-next in
     let args = c.args in
-    ending-element args.service args.message.now args.from loop.opened loop.parted loop.next _ loop.invariant pass-text.ensures if1.false _ kind_of.ensures _ is-marked.ensures enum-told2.is c.if-is_marked.false
+    ending_element args.service args.message.now args.from loop.opened loop.parted loop.next _ loop.invariant pass-text.ensures if1.false _ kind_of.ensures _ is-marked.ensures enum-told2.is c.if-is_marked.false
 
 pub returns-then-is_marked-2 : goal.returns-then-is_marked-2
 returns-then-is_marked-2 c =
@@ -49,7 +49,7 @@ returns-then-is_marked-2 c =
     let pass-text = c.pass_text-at in
     let loop = c.loop-next in
     let args = c.args in
-    ending-marked args.service args.message.now args.from loop.opened loop.parted loop.next _ loop.invariant pass-text.ensures if1.false _ kind_of.ensures _ is-marked2.ensures enum-told3.is c.if-is_marked-2.true
+    ending_marked args.service args.message.now args.from loop.opened loop.parted loop.next _ loop.invariant pass-text.ensures if1.false _ kind_of.ensures _ is-marked2.ensures enum-told3.is c.if-is_marked-2.true
 
 pub returns-in-Terminator : goal.returns-in-Terminator
 returns-in-Terminator c =
@@ -60,7 +60,7 @@ returns-in-Terminator c =
     let pass-text = c.pass_text-at in
     let loop = c.loop-next in
     let args = c.args in
-    ending-found args.service args.message.now args.from loop.opened loop.parted loop.next _ loop.invariant pass-text.ensures if1.false _ kind_of.ensures _ is-marked2.ensures enum-told3.is c.if-is_marked-2.false
+    ending_found args.service args.message.now args.from loop.opened loop.parted loop.next _ loop.invariant pass-text.ensures if1.false _ kind_of.ensures _ is-marked2.ensures enum-told3.is c.if-is_marked-2.false
 
 pub returns-then-not-is_released : goal.returns-then-not-is_released
 returns-then-not-is_released c =
@@ -71,7 +71,7 @@ returns-then-not-is_released c =
     let pass-text = c.pass_text-at in
     let loop = c.loop-next in
     let args = c.args in
-    ending-unreleased args.service args.message.now args.from loop.opened loop.parted loop.next _ loop.invariant pass-text.ensures if1.false _ kind_of.ensures enum-told4.is (sym is_released.ensures ∙ c.if-not-is_released.true)
+    ending_unreleased args.service args.message.now args.from loop.opened loop.parted loop.next _ loop.invariant pass-text.ensures if1.false _ kind_of.ensures enum-told4.is (sym is_released.ensures ∙ c.if-not-is_released.true)
 
 pub loop-next-preserved-in-Release : goal.loop-next-preserved-in-Release
 loop-next-preserved-in-Release c =
@@ -82,7 +82,7 @@ loop-next-preserved-in-Release c =
     let pass-text = c.pass_text-at in
     let loop = c.loop-next in
     let args = c.args in
-    ending-released args.service args.message.now args.from loop.opened loop.parted loop.next _ loop.invariant pass-text.ensures if1.false _ kind_of.ensures enum-told4.is (sym is_released.ensures ∙ c.if-not-is_released.false)
+    ending_released args.service args.message.now args.from loop.opened loop.parted loop.next _ loop.invariant pass-text.ensures if1.false _ kind_of.ensures enum-told4.is (sym is_released.ensures ∙ c.if-not-is_released.false)
 
 pub loop-next-preserved : goal.loop-next-preserved
 loop-next-preserved c =
@@ -91,7 +91,7 @@ loop-next-preserved c =
     let pass-text = c.pass_text-at in
     let loop = c.loop-next in
     let args = c.args in
-    ending-plain args.service args.message.now args.from loop.opened loop.parted loop.next _ loop.invariant pass-text.ensures if1.false _ kind_of.ensures c.in-Plain.is
+    ending_plain args.service args.message.now args.from loop.opened loop.parted loop.next _ loop.invariant pass-text.ensures if1.false _ kind_of.ensures c.in-Plain.is
 
 pub returns-in-Other : goal.returns-in-Other
 returns-in-Other c =
@@ -100,7 +100,7 @@ returns-in-Other c =
     let pass-text = c.pass_text-at in
     let loop = c.loop-next in
     let args = c.args in
-    ending-bad args.service args.message.now args.from loop.opened loop.parted loop.next _ loop.invariant pass-text.ensures if1.false _ kind_of.ensures c.in-Other.is
+    ending_bad args.service args.message.now args.from loop.opened loop.parted loop.next _ loop.invariant pass-text.ensures if1.false _ kind_of.ensures c.in-Other.is
 
 pub returns : goal.returns
 returns c =

@@ -1,7 +1,7 @@
 -- `segment::has_tag` meets its contract: byte by byte of the tag.
 use native.Mathlib.Omega.{arith}
 use mathlib.Core.Path.{sym, ◌∙◌}
-use Rattle.reading.proofs.Ending.{tag_short, tag_bad_first, tag-bad-second, tag-third}
+use Rattle.reading.proofs.Ending.{tag_short, tag_bad_first, tag_bad_second, tag_third}
 use Rattle.reading.proofs.segment.has_tag.Goals as goal
 
 pub returns-then-message-lt4 : goal.returns-then-message-lt4
@@ -24,7 +24,7 @@ returns-then-not-is_tag_byte-2 c =
     let if2 = c.if-message-at in
     let if1 = c.if-message-lt4 in
     let args = c.args in
-    tag-bad-second args.message.now args.at (omega (arith, if1.false, if2.false)) (sym is_tag_byte.ensures ∙ if3.false) (sym c.is_tag_byte-2.ensures ∙ c.if-not-is_tag_byte-2.true)
+    tag_bad_second args.message.now args.at (omega (arith, if1.false, if2.false)) (sym is_tag_byte.ensures ∙ if3.false) (sym c.is_tag_byte-2.ensures ∙ c.if-not-is_tag_byte-2.true)
 
 pub returns : goal.returns
 returns c =
@@ -35,4 +35,4 @@ returns c =
     let if2 = c.if-message-at in
     let if1 = c.if-message-lt4 in
     let args = c.args in
-    tag-third args.message.now args.at (omega (arith, if1.false, if2.false)) (sym is_tag_byte.ensures ∙ if3.false) (sym is-tag-byte2.ensures ∙ if4.false) _ c.is_tag_byte-3.ensures
+    tag_third args.message.now args.at (omega (arith, if1.false, if2.false)) (sym is_tag_byte.ensures ∙ if3.false) (sym is-tag-byte2.ensures ∙ if4.false) _ c.is_tag_byte-3.ensures
