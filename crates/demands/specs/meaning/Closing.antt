@@ -1,5 +1,6 @@
 -- The demands, of the call that is shipped: whatever outcome the contract of `tracksaddle_judge` admits keeps the user's three
--- sentences. The contract is the one of crates/tracksaddle/src/lib.rt, as the check reads it (`Reads`), and no copy. Any slices will do.
+-- sentences. The contract is the one of crates/tracksaddle/src/lib.rt, as the check reads it (`Reads`), and no copy; what C links has the same, which
+-- tracksaddle_c/proofs/Door.antt says. Any slices will do.
 use Rattle.std.specs.Prelude.{ℕ, ◌≤◌, ◌<◌, ◌≡◌, ◌↔◌, ◌⊎◌, List, length}
 use Rattle.guide.specs.meaning.Guide.{guide_of}
 use Rattle.book.specs.meaning.GoodBook.{GoodBook}

@@ -7,7 +7,7 @@ use Rattle.reading.specs.meaning.WellFormed.{WellFormed}
 use Rattle.reading.specs.meaning.Component.{value_at}
 use Rattle.reading.specs.declared.service.Service.{Service}
 
--- ---- what is compared. A component of a `Message` is its value; that this is 01's value of the component's bytes is law value-written.
+-- ---- what is compared. A component of a `Message` is its value; that this is 01's value of the component's bytes is law value_written.
 
 abbrev pub tags_of : Message → List Tag
 tags_of [] = []
