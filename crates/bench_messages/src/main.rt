@@ -9,34 +9,36 @@ use framing::Verdict;
 use reading::service::Service;
 use std::io;
 
-fn write(rt: &impl Print, text: &[u8]) -> io::Result<()> {
-    rt.write_all(text)
-}
+// In the order of 01.
+const MESSAGES: [&str; 14] = [
+    "UNH+1'BGM+7'RFF+Z13:10001'UNT+4+1'",
+    "UNH+1'BGM+7'RFF+Z13:10001'UNT+5+1'",
+    "UNH+1'BGM+7'RFF+Z13:10001'UNT+5+2'",
+    "UNH+1'BGM+7'RFF+Z13:10001'UNT+4+2'",
+    "UNH+1'BGM+7'RFF+Z13:10001'LIN+1'QTY+145:5'UNT+6+1'",
+    "UNH+1'BGM+7'RFF+Z13:10001'LIN+1'UNT+5+1'",
+    "UNH+1'BGM+7'RFF+Z13:10001'LIN+1'QTY+145:5'LIN+2'UNT+7+1'",
+    "UNH+1'BGM+7'RFF+Z13:10001'LIN+1'LIN+2'LIN+3'UNT+7+1'",
+    "UNH+1'BGM+7'RFF+Z13:10001'QTY+145:5'LIN+1'UNT+6+1'",
+    "UNH+1'BGM+7'UNT+3+1'",
+    "UNH+1'BGM+7'RFF+Z13:10001'LIN+1,5'UNT+5+1'",
+    "",
+    "UNH+1",
+    "UNH+1?A'",
+];
 
-fn write_number(rt: &impl Print, number: u32) -> io::Result<()> {
-    print!(rt; " {number}")
-}
-
-fn write_verdict(rt: &impl Print, verdict: Verdict) -> io::Result<()> {
-    write_number(rt, verdict.number)?;
-    write_number(rt, verdict.place.at)?;
-    write_number(rt, verdict.place.line)?;
-    write_number(rt, verdict.place.element)?;
-    write_number(rt, verdict.place.component)?;
-    write_number(rt, verdict.condition)?;
-    write(rt, b"\n")
-}
+// What may be known of the one condition, and the number that says so.
+const STATES: [(&str, u8); 3] = [("false", 0), ("true", 1), ("unknown", 2)];
 
 // No bench message under K has more segments than the tables have entries.
 fn judge_under_k(message: &[u8], condition: u8) -> Verdict {
-    let book = book_k::BOOK_K;
     let mut starts: [u32; 8] = [0; 8];
     let mut homes: [u32; 8] = [0; 8];
     let mut parents: [u32; 8] = [0; 8];
     judging::judge(
         Service::standard(),
         message,
-        &book,
+        &book_k::BOOK_K,
         &[condition],
         &mut starts,
         &mut homes,
@@ -44,37 +46,24 @@ fn judge_under_k(message: &[u8], condition: u8) -> Verdict {
     )
 }
 
-fn write_judged(rt: &impl Print, state: &[u8], message: &[u8], condition: u8) -> io::Result<()> {
-    write(rt, state)?;
-    write_verdict(rt, judge_under_k(message, condition))
-}
-
 // The message, and a line for each state of the condition.
-fn bench(rt: &impl Print, message: &[u8]) -> io::Result<()> {
-    write(rt, message)?;
-    write(rt, b"\n")?;
-    write_judged(rt, b"  false  ", message, 0)?;
-    write_judged(rt, b"  true   ", message, 1)?;
-    write_judged(rt, b"  unknown", message, 2)
+fn bench(rt: &impl Print, message: &str) -> io::Result<()> {
+    println!(rt; "{message}")?;
+    for (state, condition) in STATES {
+        let verdict = judge_under_k(message.as_bytes(), condition);
+        let number = verdict.number;
+        let place = verdict.place;
+        println!(rt;
+            "  {state:<7} {number} {} {} {} {} {}",
+            place.at, place.line, place.element, place.component, verdict.condition
+        )?;
+    }
+    Ok(())
 }
 
-// In the order of 01.
 fn main(rt: HostRuntime) -> io::Result<()> {
-    bench(&rt, b"UNH+1'BGM+7'RFF+Z13:10001'UNT+4+1'")?;
-    bench(&rt, b"UNH+1'BGM+7'RFF+Z13:10001'UNT+5+1'")?;
-    bench(&rt, b"UNH+1'BGM+7'RFF+Z13:10001'UNT+5+2'")?;
-    bench(&rt, b"UNH+1'BGM+7'RFF+Z13:10001'UNT+4+2'")?;
-    bench(&rt, b"UNH+1'BGM+7'RFF+Z13:10001'LIN+1'QTY+145:5'UNT+6+1'")?;
-    bench(&rt, b"UNH+1'BGM+7'RFF+Z13:10001'LIN+1'UNT+5+1'")?;
-    bench(
-        &rt,
-        b"UNH+1'BGM+7'RFF+Z13:10001'LIN+1'QTY+145:5'LIN+2'UNT+7+1'",
-    )?;
-    bench(&rt, b"UNH+1'BGM+7'RFF+Z13:10001'LIN+1'LIN+2'LIN+3'UNT+7+1'")?;
-    bench(&rt, b"UNH+1'BGM+7'RFF+Z13:10001'QTY+145:5'LIN+1'UNT+6+1'")?;
-    bench(&rt, b"UNH+1'BGM+7'UNT+3+1'")?;
-    bench(&rt, b"UNH+1'BGM+7'RFF+Z13:10001'LIN+1,5'UNT+5+1'")?;
-    bench(&rt, b"")?;
-    bench(&rt, b"UNH+1")?;
-    bench(&rt, b"UNH+1?A'")
+    for message in MESSAGES {
+        bench(&rt, message)?;
+    }
+    Ok(())
 }

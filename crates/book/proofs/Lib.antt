@@ -1,6 +1,6 @@
 -- Laws of guide books: first of rules and tests, then of books.
 pub mod Rules
-pub mod Joining
+pub mod Ranges
 pub mod Tables
 pub mod Passing
 pub mod Checking

@@ -1,8 +1,10 @@
 -- Lines of other tags are passed over before one home is asked: nothing is asked of such a pair.
-use Prim.Native.Nat.{ℕ, ◌+◌, ◌-◌, ◌<◌}
+use Prim.Native.Nat.{ℕ, zero, suc, ◌+◌, ◌-◌, ◌≤◌, ◌<◌}
 use native.Mathlib.Omega.{arith}
-use mathlib.Core.Path.{◌≡◌, sym, ap, ◌∙◌}
+use mathlib.Core.Path.{◌≡◌, refl, sym, ap, subst, ◌∙◌}
 use mathlib.Core.Bool.{Bool, true, false}
+use native.Mathlib.Numerals.{add-one}
+use Rattle.std.specs.Prelude.{Option, None, Some, MatchOption}
 use Rattle.guide.specs.meaning.Guide.{Guide}
 use Rattle.book.specs.method.Run.{run, all}
 use Rattle.book.specs.meaning.GoodBook.{same_tag_rule, told_apart_rule, pair_rule}
@@ -17,7 +19,7 @@ module _ (g : Guide) (m : ℕ) where
   unfolding pair_rule
   other_tag l e = sym (when_false (run (same_tag_rule g l m)) (run (told_apart_rule g l m)) e)
 
-  pub passed_on : (l : ℕ) → l < m → run (same_tag_rule g l m) ≡ false → PassedTo g m l → PassedTo g m (l + 1)
+  passed_on : (l : ℕ) → l < m → run (same_tag_rule g l m) ≡ false → PassedTo g m l → PassedTo g m (l + 1)
   passed_on l h e i =
       let n : m - (l + 1) ≡ m - l - 1 = omega arith in
       record {
@@ -26,7 +28,23 @@ module _ (g : Guide) (m : ℕ) where
         same = ap (λ (k : ℕ). all (l + 1) k test) n ∙ all_on test l (m - l) (omega arith) (other_tag l e) ∙ i.same;
       }
 
-  -- none shares the tag
-  pub all_passed : (l : ℕ) → l ≡ m → PassedTo g m l → true ≡ run (home_rule g m)
+  -- none of those before shares the tag
+  passed_up : (l : ℕ) → 1 ≤ l → l ≤ m → ((k : ℕ) → 1 ≤ k → k < l → run (same_tag_rule g k m) ≡ false) → PassedTo g m l
+  passed_up zero some within other = absurd (omega arith)
+  passed_up (suc zero) some within other = record { some = some; within = within; same = refl }
+  passed_up (suc (suc l)) some within other =
+      subst (PassedTo g m) (add-one (suc l))
+      (passed_on (suc l) within (other (suc l) (omega arith) (omega arith)) (passed_up (suc l) (omega arith) (omega arith) (λ k a b. other k a (omega arith))))
+
+  -- none at all
+  all_passed : PassedTo g m m → true ≡ run (home_rule g m)
   unfolding home_rule
-  all_passed l e i = sym (all_end test l (m - l) (omega arith)) ∙ i.same
+  all_passed i = sym (all_end test m (m - m) (omega arith)) ∙ i.same
+
+  -- what a search for the first line of the tag has found
+  pub passed_found : (r : Option ℕ) → 1 ≤ m
+      → MatchOption r ((k : ℕ) → 1 ≤ k → k < m → run (same_tag_rule g k m) ≡ false)
+      (λ l. (1 ≤ l) × (l < m) × (run (same_tag_rule g l m) ≡ true) × ((k : ℕ) → 1 ≤ k → k < l → run (same_tag_rule g k m) ≡ false))
+      → MatchOption r (true ≡ run (home_rule g m)) (PassedTo g m)
+  passed_found None some h = all_passed (passed_up m some (omega arith) h)
+  passed_found (Some l) some h = let before = h.1 in passed_up l h.0 (omega arith) h.3

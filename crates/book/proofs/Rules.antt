@@ -1,4 +1,4 @@
--- The laws of rules: to run one decides it; and a loop over `all` goes on, ends, or stops at a failure.
+-- The laws of rules: to run one decides it; and a test of every number goes on, ends, and has one number more.
 use Prim.Native.Nat.{ℕ, zero, suc, ◌+◌, ◌-◌, ◌≤◌, ◌<◌}
 use native.Mathlib.Omega.{arith}
 use native.Mathlib.Numerals.{add-one}
@@ -32,11 +32,6 @@ module _ (test : ℕ → Bool) where
   unfolding all
   all_end first zero h = refl
   all_end first (suc count) h = absurd (omega arith)
-
-  pub all_fail : (first count : ℕ) → 0 < count → test first ≡ false → all first count test ≡ false
-  unfolding all
-  all_fail first zero h e = absurd (omega arith)
-  all_fail first (suc count) h e = simp e
 
   pub all_on : (first count : ℕ) → 0 < count → test first ≡ true → all (first + 1) (count - 1) test ≡ all first count test
   unfolding all
@@ -122,12 +117,6 @@ fails_run r h = refuted (run r) (λ e. h (run_holds r e))
 pub when_false : (a b : Bool) → a ≡ false → true ≡ (not a || b)
 when_false a b e = simp e
 
-pub when_true : (a b r : Bool) → a ≡ true → r ≡ b → r ≡ (not a || b)
-when_true a b r e h = simp e h
-
--- a test of several rules, one after the other: the first that fails decides, and one that holds leaves the others
-pub fails_here : (a b : Bool) → a ≡ false → false ≡ (a && b)
-fails_here a b e = simp e
-
+-- a test of several rules, one after the other: one that holds leaves the others
 pub goes_on : (a b r : Bool) → a ≡ true → r ≡ b → r ≡ (a && b)
 goes_on a b r e h = simp e h

@@ -1,10 +1,10 @@
 -- The tables of the one-home test: a table is filled place by place; codes numbered by the first of their value are told apart by
 -- their numbers; and a mark tells whether a line has a code of the same bytes.
-use Prim.Native.Nat.{ℕ, ◌+◌, ◌≤◌, ◌<◌, ◌^◌}
+use Prim.Native.Nat.{ℕ, ◌+◌, ◌-◌, ◌≤◌, ◌<◌, ◌^◌}
 use native.Mathlib.Omega.{arith}
-use mathlib.Core.Path.{◌≡◌, refl, sym, ap, ap₂, ◌∙◌}
+use mathlib.Core.Path.{◌≡◌, refl, sym, ap, ap₂, subst, ◌∙◌}
 use mathlib.Core.List.{List}
-use mathlib.Core.Bool.{Bool, true, false}
+use mathlib.Core.Bool.{Bool, true, false, not}
 use lib.Dec.{eqb}
 use lib.ListN.{length, get_or, set}
 use lib.Seq.{get_or-set_same, get_or-set_other}
@@ -27,10 +27,6 @@ stored P xs place x within before here =
     (rw (get_or-set_same xs place x 0 within) here)
 
 -- ---- the first place of a value
-
--- what has another value than a place, and does not lie after it, lies before it
-pub not_there : (value : ℕ → ℕ) (place first : ℕ) → first ≤ place → (value first ≡ value place → ⊥) → first < place
-not_there value place first h other = let apart : first ≡ place → ⊥ = λ e. other (ap value e) in omega arith
 
 pub first_agrees : (v w : ℕ → ℕ) (place first : ℕ) → ((i : ℕ) → i < place + 1 → v i ≡ w i) → FirstOf v place first → FirstOf w place first
 first_agrees v w place first same f =
@@ -70,20 +66,24 @@ module _ (g : Guide) (numbers : List ℕ) (low : (c : ℕ) → g.code_low c < 2 
 -- ---- marks
 
 -- a code's number is not marked exactly when the code is another one than so many from the first on
-abbrev pub MarkedFrom : (g : Guide) (numbers marks : List ℕ) (first count : ℕ) → Type 0
-MarkedFrom g numbers marks first count = (c : ℕ) → c < g.codes → eqb (get_or marks (get_or numbers c 0) 0) 0 ≡ all first count (λ i. run (other_code_rule g c i))
+abbrev pub MarkedFrom : (g : Guide) (numbers : List ℕ) (marks : List Bool) (first count : ℕ) → Type 0
+MarkedFrom g numbers marks first count = (c : ℕ) → c < g.codes → not (get_or marks (get_or numbers c 0) false) ≡ all first count (λ i. run (other_code_rule g c i))
 
 module _ (g : Guide) (numbers : List ℕ) (n : Numbered g numbers) where
   pub in_table : (c : ℕ) → c < g.codes → get_or numbers c 0 < 8192
   in_table c h = let few = n.few in let most = n.at_most c h in omega arith
 
-  pub mark_none : (marks : List ℕ) (first : ℕ) → ((i : ℕ) → i < 8192 → get_or marks i 0 ≡ 0) → MarkedFrom g numbers marks first 0
+  mark_none : (marks : List Bool) (first : ℕ) → ((i : ℕ) → i < 8192 → get_or marks i false ≡ false) → MarkedFrom g numbers marks first 0
   unfolding all
-  mark_none marks first blank c h = ap (λ (x : ℕ). eqb x 0) (blank (get_or numbers c 0) (in_table c h))
+  mark_none marks first blank c h = ap not (blank (get_or numbers c 0) (in_table c h))
+
+  pub mark_start : (marks : List Bool) (first : ℕ) → ((i : ℕ) → i < 8192 → get_or marks i false ≡ false) → MarkedFrom g numbers marks first (first - first)
+  mark_start marks first blank =
+      let none : 0 ≡ first - first = omega arith in subst (MarkedFrom g numbers marks first) none (mark_none marks first blank)
 
   -- one code more: those with its number are marked now, and the others stay as they were
-  pub mark_one : (marks : List ℕ) (first count : ℕ) → first + count < g.codes → length marks ≡ 8192 → MarkedFrom g numbers marks first count
-      → MarkedFrom g numbers (set marks (get_or numbers (first + count) 0) 1) first (count + 1)
+  mark_one : (marks : List Bool) (first count : ℕ) → first + count < g.codes → length marks ≡ 8192 → MarkedFrom g numbers marks first count
+      → MarkedFrom g numbers (set marks (get_or numbers (first + count) 0) true) first (count + 1)
   unfolding other_than_rule
   mark_one marks first count within long before c h = go (eqb (get_or numbers c 0) number) refl
     where
@@ -96,19 +96,27 @@ module _ (g : Guide) (numbers : List ℕ) (n : Numbered g numbers) where
       test : ℕ → Bool
       test i = run (other_code_rule g c i)
 
-      go : (v : Bool) → eqb (get_or numbers c 0) number ≡ v → eqb (get_or (set marks number 1) (get_or numbers c 0) 0) 0 ≡ all first (count + 1) test
+      go : (v : Bool) → eqb (get_or numbers c 0) number ≡ v → not (get_or (set marks number true) (get_or numbers c 0) false) ≡ all first (count + 1) test
       go true e =
           let same = eqb-true (get_or numbers c 0) number e in
-          ap (λ (x : ℕ). eqb x 0) (ap (λ (i : ℕ). get_or (set marks number 1) i 0) same ∙ get_or-set_same marks number 1 0 (omega (arith, in_table d within)))
+          ap not (ap (λ (i : ℕ). get_or (set marks number true) i false) same ∙ get_or-set_same marks number true false (omega (arith, in_table d within)))
           ∙ sym (all_more test first count ∙ ends_in_false (all first count test) (test d) (fails_run (other_code_rule g c d) (λ other. other (n.same_bytes c d h within same))))
       go false e =
           let apart = eqb-false (get_or numbers c 0) number e in
-          ap (λ (x : ℕ). eqb x 0) (get_or-set_other marks number (get_or numbers c 0) 1 0 apart)
+          ap not (get_or-set_other marks number (get_or numbers c 0) true false apart)
           ∙ before c h
           ∙ sym (all_more test first count ∙ ends_in_true (all first count test) (test d) (holds_run (other_code_rule g c d) (λ same. apart (n.same_number c d h within same.0 same.1))))
 
+  pub mark_next : (marks : List Bool) (first code : ℕ) → first ≤ code → code < g.codes → length marks ≡ 8192 → MarkedFrom g numbers marks first (code - first)
+      → MarkedFrom g numbers (set marks (get_or numbers code 0) true) first (code + 1 - first)
+  mark_next marks first code later within long before =
+      let same : first + (code - first) ≡ code = omega arith in
+      let more : code - first + 1 ≡ code + 1 - first = omega arith in
+      subst (λ (n : ℕ). MarkedFrom g numbers (set marks (get_or numbers code 0) true) first n) more
+      (subst (λ (d : ℕ). MarkedFrom g numbers (set marks (get_or numbers d 0) true) first (code - first + 1)) same (mark_one marks first (code - first) (omega arith) long before))
+
   -- all codes of a line
-  pub mark_all : (marks : List ℕ) (line first count : ℕ) → first ≡ g.first_code line → count ≡ g.code_count line → MarkedFrom g numbers marks first count
+  pub mark_all : (marks : List Bool) (line first count : ℕ) → first ≡ g.first_code line → count ≡ g.code_count line → MarkedFrom g numbers marks first count
       → Marked g numbers marks line
   unfolding not_among_rule
   mark_all marks line first count e k from =

@@ -2,3 +2,4 @@
 pub mod Run
 pub mod Each
 pub mod Tables
+pub mod Answer

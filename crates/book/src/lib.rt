@@ -3,7 +3,6 @@
 
 mod check;
 mod codes;
-mod every;
 mod fields;
 mod header;
 mod homes;
@@ -14,4 +13,4 @@ mod rows;
 mod structure;
 mod tests;
 
-pub use check::check_book;
+pub use check::{BadBook, check_book};

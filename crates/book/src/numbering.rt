@@ -12,25 +12,24 @@ pub const MOST_CODES: usize = 8192;
 // For each code its number, and for each number whether it is marked.
 pub type Numbers = [u32; MOST_CODES];
 
-pub type Marks = [u8; MOST_CODES];
+pub type Marks = [bool; MOST_CODES];
 
 fn whole_code(book: &[u8], code: u32) -> u64
     ensures { result ≡ whole_code (guide_of book.now) code }
 {
-    layout::code_low(book, code) as u64 + 4294967296 * (layout::code_high(book, code) as u64)
+    u64::from(layout::code_low(book, code)) + (u64::from(layout::code_high(book, code)) << 32)
 }
 
-// The loop that is run most often: one number is compared in a turn. It ends at the place itself, if not before.
-fn first_of_value(values: &[u64; MOST_CODES], place: u32) -> u32
+// The first place of a place's value: that place itself, if none before has it. No loop is run more often.
+fn first_of_value(values: &[u64; MOST_CODES], place: usize) -> usize
     requires { place < 2 ^ 13 }
     ensures { FirstOf (λ (i : ℕ). get_or values.now i 0) place result }
 {
-    let value = values[place as usize];
-    let mut first: u32 = 0;
-    while values[first as usize] != value {
-        first += 1;
-    }
-    first
+    let value = values[place];
+    values[..place]
+        .iter()
+        .position(|earlier| *earlier == value)
+        .unwrap_or(place)
 }
 
 // A code's number is that of the first code with its value.
@@ -38,14 +37,11 @@ pub fn numbers_of(book: &[u8]) -> Numbers
     requires { (guide_of book.now).codes < 2 ^ 13 }
     ensures { Numbered (guide_of book.now) result }
 {
-    let count = layout::codes(book);
-    let mut codes = [0u64; MOST_CODES];
+    let mut values = [0u64; MOST_CODES];
     let mut numbers = [0u32; MOST_CODES];
-    let mut code: u32 = 0;
-    while code < count {
-        codes[code as usize] = whole_code(book, code);
-        numbers[code as usize] = first_of_value(&codes, code);
-        code += 1;
+    for code in 0..layout::codes(book) {
+        values[code as usize] = whole_code(book, code);
+        numbers[code as usize] = first_of_value(&values, code as usize) as u32;
     }
     numbers
 }

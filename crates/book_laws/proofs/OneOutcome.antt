@@ -1,13 +1,17 @@
 -- Law one-outcome: for each public call of guide and of book, two outcomes that meet its promise are equal.
 -- The promises are the contracts of src/ themselves, as the check reads them (`Reads`), and no copies.
 use Prim.Native.Nat.{ℕ}
+use native.Mathlib.Omega.{arith}
 use mathlib.Core.Path.{◌≡◌, refl, sym, ◌∙◌}
 use mathlib.Core.List.{List}
 use mathlib.Core.Bool.{Bool, true, false}
 use lib.Dec.{eqb}
 use borrow.Author.Tests.{eqb-true, eqb-false}
 use Rattle.reading_laws.proofs.OneOutcome.{One}
+use Rattle.std.specs.Prelude.{Result, Ok, Err}
 use Rattle.book.specs.meaning.GoodBook.{Judged}
+use Rattle.book.specs.method.Answer.{number_of}
+use Rattle.book.specs.declared.check.BadBook.{BadBook}
 use Rattle.book.proofs.check_book.Reads as check_book
 use Rattle.guide.proofs.edition.edition_of.Reads as edition_of
 use Rattle.guide.proofs.blocks.blocks_of.Reads as blocks_of
@@ -20,6 +24,7 @@ use Rattle.guide.proofs.layout.identifiers.Reads as identifiers
 use Rattle.guide.proofs.layout.conditions.Reads as conditions
 use Rattle.guide.proofs.layout.carrier.Reads as carrier
 use Rattle.guide.proofs.layout.kind.Reads as kind
+use Rattle.guide.proofs.layout.is_group.Reads as is_group
 use Rattle.guide.proofs.layout.depth.Reads as depth
 use Rattle.guide.proofs.layout.tag_byte.Reads as tag_byte
 use Rattle.guide.proofs.layout.tag.Reads as tag
@@ -59,8 +64,14 @@ one_judged bs r q x y = go (eqb r 0) (eqb q 0) (eqb-true r 0) (eqb-false r 0) (e
     go false true a b c d e f = absurd (b e (x.good (y.accepted (c f))))
     go false false a b c d e f = x.malformed (b e) ∙ sym (y.malformed (d f))
 
+one_answer : (r q : Result (Unit {0}) BadBook) → number_of r ≡ number_of q → r ≡ q
+one_answer (Ok x) (Ok y) e = refl
+one_answer (Ok x) (Err y) e = absurd (omega (arith, e))
+one_answer (Err x) (Ok y) e = absurd (omega (arith, e))
+one_answer (Err x) (Err y) e = refl
+
 pub one_check_book : One check_book.Post
-one_check_book κs a r q x y m n = one_judged _ r q m n
+one_check_book κs a r q x y m n = one_answer r q (one_judged _ (number_of r) (number_of q) m n)
 
 pub one_edition_of : One edition_of.Post
 one_edition_of κs a r q x y m n = λ i. record { number = (m.number ∙ sym n.number) i; header = (m.header ∙ sym n.header) i; line = (m.line ∙ sym n.line) i; code = (m.code ∙ sym n.code) i; field = (m.field ∙ sym n.field) i; identifier = (m.identifier ∙ sym n.identifier) i; row = (m.row ∙ sym n.row) i }
@@ -95,6 +106,9 @@ one_carrier κs a r q x y m n = m.0 ∙ sym n.0
 
 pub one_kind : One kind.Post
 one_kind κs a r q x y m n = m.0 ∙ sym n.0
+
+pub one_is_group : One is_group.Post
+one_is_group κs a r q x y m n = m ∙ sym n
 
 pub one_depth : One depth.Post
 one_depth κs a r q x y m n = m.0 ∙ sym n.0

@@ -18,15 +18,13 @@ use Rattle.framing.specs.declared.verdict.Verdict.{Verdict}
 use Rattle.placing.specs.method.Passes.{homes_from}
 use Rattle.judging.specs.method.Answers.{fields_verdict, rows_verdict}
 use Rattle.fields.specs.method.Testing.{first_fault}
+use Rattle.std.specs.Prelude.{⊤, Option, Some, None, Result, Ok, Err}
 use Rattle.fields.specs.declared.passes.FirstFault.{FirstFault}
-use Rattle.fields.specs.declared.passes.FirstFault.TheVariants.{At, Clean}
 use Rattle.rules.specs.meaning.Conditions.{Fills, Learns}
 use Rattle.rules.specs.method.Identifiers.{identified}
 use Rattle.rules.specs.method.Scanning.{scanned_row}
-use Rattle.rules.specs.declared.finding.Finding.{Finding}
-use Rattle.rules.specs.declared.finding.Finding.TheVariants.{Kept, Broken, Unsettled}
-use Rattle.rules.specs.declared.identifier.Identified.{Identified}
-use Rattle.rules.specs.declared.identifier.Identified.TheVariants.{Known, Foreign}
+use Rattle.rules.specs.method.Scanning.{Outcome}
+use Rattle.rules.specs.declared.finding.Finding.TheVariants.{Broken, Unsettled}
 use Rattle.judging.proofs.Decided.{refusal_number}
 use Rattle.judging.specs.method.Table.{refusal, identifier_in, identifier_verdict, placed_stage, judged, tables_after}
 use Rattle.slices.specs.meaning.Lent.{as_many_as_fit}
@@ -47,10 +45,10 @@ one_verdict v w entries room e = ap of_numbers (sym (whole_record v entries room
 
 -- ---- number 0 comes with its place alone
 
-rows_zero : (n : ℕ) (f : Finding) → (rows_verdict n f).number ≡ 0 → rows_verdict n f ≡ answer 0 n
-rows_zero n Kept e = refl
-rows_zero n (Broken k l) e = absurd (omega arith)
-rows_zero n (Unsettled k l c) e = absurd (omega arith)
+rows_zero : (n : ℕ) (f : Outcome) → (rows_verdict n f).number ≡ 0 → rows_verdict n f ≡ answer 0 n
+rows_zero n (Ok _) e = refl
+rows_zero n (Err (Broken k l)) e = absurd (omega arith)
+rows_zero n (Err (Unsettled k l c)) e = absurd (omega arith)
 
 module _ (bs book cs : List ℕ) (n : ℕ) where
   placed_zero : (placed_stage standard bs book cs n).number ≡ 0 → placed_stage standard bs book cs n ≡ answer 0 n
@@ -59,11 +57,11 @@ module _ (bs book cs : List ℕ) (n : ℕ) where
       go (first_fault standard (guide_of book) bs 0 (starts_from standard bs n 0) (homes_from standard bs book n 0))
       (identified (guide_of book) (identifier_in standard (guide_of book) bs (starts_from standard bs n 0) (homes_from standard bs book n 0)))
     where
-      go : (f : FirstFault) (i : Identified) → (fields_verdict f (identifier_verdict (guide_of book) cs n (homes_from standard bs book n 0) i)).number ≡ 0
+      go : (f : Result ⊤ FirstFault) (i : Option ℕ) → (fields_verdict f (identifier_verdict (guide_of book) cs n (homes_from standard bs book n 0) i)).number ≡ 0
           → fields_verdict f (identifier_verdict (guide_of book) cs n (homes_from standard bs book n 0) i) ≡ answer 0 n
-      go (At k l e c) i z = absurd (omega arith)
-      go Clean Foreign z = absurd (omega arith)
-      go Clean (Known p) z = rows_zero n (scanned_row (guide_of book) p cs (homes_from standard bs book n 0)) z
+      go (Err x) i z = absurd (omega arith)
+      go (Ok _) None z = absurd (omega arith)
+      go (Ok _) (Some p) z = rows_zero n (scanned_row (guide_of book) p cs (homes_from standard bs book n 0)) z
 
 -- ---- what the contract says of a call
 

@@ -15,15 +15,13 @@ use Rattle.reading.specs.declared.service.Service.{Service}
 use Rattle.reading.specs.method.Starts.{starts_from}
 use Rattle.placing.specs.method.Passes.{homes_from}
 use Rattle.fields.specs.method.Testing.{first_fault}
+use Rattle.std.specs.Prelude.{⊤, Option, Some, None, Result, Ok, Err}
 use Rattle.fields.specs.declared.passes.FirstFault.{FirstFault}
-use Rattle.fields.specs.declared.passes.FirstFault.TheVariants.{At, Clean}
 use Rattle.rules.specs.meaning.Conditions.{Chosen, Fills, Learned, Learns}
 use Rattle.rules_laws.specs.laws.FirstFound.{first_row}
 use Rattle.rules.specs.method.Identifiers.{identified}
-use Rattle.rules.specs.declared.finding.Finding.{Finding}
-use Rattle.rules.specs.declared.finding.Finding.TheVariants.{Kept, Broken, Unsettled}
-use Rattle.rules.specs.declared.identifier.Identified.{Identified}
-use Rattle.rules.specs.declared.identifier.Identified.TheVariants.{Known, Foreign}
+use Rattle.rules.specs.method.Scanning.{Outcome}
+use Rattle.rules.specs.declared.finding.Finding.TheVariants.{Broken, Unsettled}
 use Rattle.rules_laws.proofs.SureOrOpen.{IsUnsettled, settled, unsettled, later, inhabited}
 use Rattle.framing.specs.meaning.Record.{place, verdict, answer}
 use Rattle.framing.specs.method.Stages.{or_else, message_stage}
@@ -75,7 +73,6 @@ learned_known true c d e h = let z = eqb-true c 2 e in le-leb d 2 h ∙ sym (le-
 learned_known false c d e h = ap (λ (x : ℕ). leb x 2) h
 
 learns_known : (cs ds : List ℕ) → Learns cs ds → are_truth_values ds ≡ are_truth_values cs
-unfolding are_truth_values
 learns_known [] [] h = refl
 learns_known [] (d ∷ ds) h = absurd h
 learns_known (c ∷ cs) [] h = absurd h
@@ -107,32 +104,32 @@ module _ (J : List ℕ → Verdict) (cs : List ℕ) where
 
 -- ---- the rows
 
-unsettled_number : (n : ℕ) (f : Finding) → (rows_verdict n f).number ≡ 15 → IsUnsettled f
-unsettled_number n Kept e = absurd (omega arith)
-unsettled_number n (Broken k l) e = absurd (omega arith)
-unsettled_number n (Unsettled k l c) e = tt
+unsettled_number : (n : ℕ) (f : Outcome) → (rows_verdict n f).number ≡ 15 → IsUnsettled f
+unsettled_number n (Ok _) e = absurd (omega arith)
+unsettled_number n (Err (Broken k l)) e = absurd (omega arith)
+unsettled_number n (Err (Unsettled k l c)) e = tt
 
-number_unsettled : (n : ℕ) (f : Finding) → IsUnsettled f → (rows_verdict n f).number ≡ 15
-number_unsettled n Kept u = absurd u
-number_unsettled n (Broken k l) u = absurd u
-number_unsettled n (Unsettled k l c) u = refl
+number_unsettled : (n : ℕ) (f : Outcome) → IsUnsettled f → (rows_verdict n f).number ≡ 15
+number_unsettled n (Ok _) u = absurd u
+number_unsettled n (Err (Broken k l)) u = absurd u
+number_unsettled n (Err (Unsettled k l c)) u = refl
 
 -- two findings are told apart by their verdicts
-one_finding : (n : ℕ) (f h : Finding) → rows_verdict n f ≡ rows_verdict n h → f ≡ h
-one_finding n Kept Kept e = refl
-one_finding n Kept (Broken k l) e = absurd (let z : 0 ≡ 14 = ap (λ (v : Verdict). v.number) e in omega arith)
-one_finding n Kept (Unsettled k l c) e = absurd (let z : 0 ≡ 15 = ap (λ (v : Verdict). v.number) e in omega arith)
-one_finding n (Broken k l) Kept e = absurd (let z : 14 ≡ 0 = ap (λ (v : Verdict). v.number) e in omega arith)
-one_finding n (Broken k l) (Broken i j) e = ap₂ Broken (ap (λ (v : Verdict). v.place.at) e) (ap (λ (v : Verdict). v.place.line) e)
-one_finding n (Broken k l) (Unsettled i j d) e = absurd (let z : 14 ≡ 15 = ap (λ (v : Verdict). v.number) e in omega arith)
-one_finding n (Unsettled k l c) Kept e = absurd (let z : 15 ≡ 0 = ap (λ (v : Verdict). v.number) e in omega arith)
-one_finding n (Unsettled k l c) (Broken i j) e = absurd (let z : 15 ≡ 14 = ap (λ (v : Verdict). v.number) e in omega arith)
-one_finding n (Unsettled k l c) (Unsettled i j d) e =
-    ap₂ (λ (x y : ℕ). Unsettled x y c) (ap (λ (v : Verdict). v.place.at) e) (ap (λ (v : Verdict). v.place.line) e) ∙ ap (Unsettled i j) (ap (λ (v : Verdict). v.condition) e)
+one_finding : (n : ℕ) (f h : Outcome) → rows_verdict n f ≡ rows_verdict n h → f ≡ h
+one_finding n (Ok _) (Ok _) e = refl
+one_finding n (Ok _) (Err (Broken k l)) e = absurd (let z : 0 ≡ 14 = ap (λ (v : Verdict). v.number) e in omega arith)
+one_finding n (Ok _) (Err (Unsettled k l c)) e = absurd (let z : 0 ≡ 15 = ap (λ (v : Verdict). v.number) e in omega arith)
+one_finding n (Err (Broken k l)) (Ok _) e = absurd (let z : 14 ≡ 0 = ap (λ (v : Verdict). v.number) e in omega arith)
+one_finding n (Err (Broken k l)) (Err (Broken i j)) e = ap₂ (λ (x y : ℕ). Err (Broken x y)) (ap (λ (v : Verdict). v.place.at) e) (ap (λ (v : Verdict). v.place.line) e)
+one_finding n (Err (Broken k l)) (Err (Unsettled i j d)) e = absurd (let z : 14 ≡ 15 = ap (λ (v : Verdict). v.number) e in omega arith)
+one_finding n (Err (Unsettled k l c)) (Ok _) e = absurd (let z : 15 ≡ 0 = ap (λ (v : Verdict). v.number) e in omega arith)
+one_finding n (Err (Unsettled k l c)) (Err (Broken i j)) e = absurd (let z : 15 ≡ 14 = ap (λ (v : Verdict). v.number) e in omega arith)
+one_finding n (Err (Unsettled k l c)) (Err (Unsettled i j d)) e =
+    ap₂ (λ (x y : ℕ). Err (Unsettled x y c)) (ap (λ (v : Verdict). v.place.at) e) (ap (λ (v : Verdict). v.place.line) e) ∙ ap (λ (x : ℕ). Err (Unsettled i j x)) (ap (λ (v : Verdict). v.condition) e)
 
 module _ (book : List ℕ) (good : GoodBook book) (p n : ℕ) (hs ps : List ℕ) (J : List ℕ → Verdict) (cs : List ℕ)
     (is : (ds : List ℕ) → Learns cs ds → J ds ≡ rows_verdict n (first_row (guide_of book) p ds hs ps)) where
-  abbrev found : List ℕ → Finding
+  abbrev found : List ℕ → Outcome
   found ds = first_row (guide_of book) p ds hs ps
 
   here : J cs ≡ rows_verdict n (found cs)
@@ -158,7 +155,7 @@ module _ (book : List ℕ) (good : GoodBook book) (p n : ℕ) (hs ps : List ℕ)
       not-open : IsUnsettled (found cs) → ⊥
       not-open u = let d = differ u in d.4 (all d.0 d.2 ∙ sym (all d.1 d.3))
 
-      go : (f : Finding) → found cs ≡ f → J cs ≡ v
+      go : (f : Outcome) → found cs ≡ f → J cs ≡ v
       go f e =
           let i = inhabited cs in
           here ∙ ap (rows_verdict n) (sym ((settled book good p hs ps cs (found cs) not-open).0 refl i.0 i.1)) ∙ sym (filled i.0 i.1) ∙ all i.0 i.1
@@ -227,22 +224,22 @@ module _ (s : Service) (service : GoodService s) (bs book : List ℕ) (room : Ro
       abbrev ps : List ℕ
       ps = parents_of c.placed.tree
 
-      rows_are : (p : ℕ) → identified (guide_of book) (identifier_in s (guide_of book) bs starts hs) ≡ Known p → (ds : List ℕ)
+      rows_are : (p : ℕ) → identified (guide_of book) (identifier_in s (guide_of book) bs starts hs) ≡ Some p → (ds : List ℕ)
           → scanned_row (guide_of book) p ds hs ≡ first_row (guide_of book) p ds (homes_in book c.well_formed.message) ps
       rows_are p j ds =
           ap (scanned_row (guide_of book) p ds) homes-are
           ∙ rows_on_tree s service bs book c.good c.well_formed c.placed p (identified_known (guide_of book) (identifier_in s (guide_of book) bs starts hs) p j).0 ds
 
-      placed-keep : (f : FirstFault) → first_fault s (guide_of book) bs 0 starts hs ≡ f → (i : Identified) → identified (guide_of book) (identifier_in s (guide_of book) bs starts hs) ≡ i → Keeps J cs
-      placed-keep (At k l e d) h i j =
-          let fixed : (ds : List ℕ) → Learns cs ds → J ds ≡ verdict 12 (place k l e d) 0 = λ ds x. each ds x ∙ ap (λ (f : FirstFault). fields_verdict f (identifier_verdict (guide_of book) ds n hs (identified (guide_of book) (identifier_in s (guide_of book) bs starts hs)))) h in
+      placed-keep : (f : Result ⊤ FirstFault) → first_fault s (guide_of book) bs 0 starts hs ≡ f → (i : Option ℕ) → identified (guide_of book) (identifier_in s (guide_of book) bs starts hs) ≡ i → Keeps J cs
+      placed-keep (Err x) h i j =
+          let fixed : (ds : List ℕ) → Learns cs ds → J ds ≡ verdict 12 (place x.place x.line x.element x.component) 0 = λ ds y. each ds y ∙ ap (λ (f : Result ⊤ FirstFault). fields_verdict f (identifier_verdict (guide_of book) ds n hs (identified (guide_of book) (identifier_in s (guide_of book) bs starts hs)))) h in
           constant J cs (λ ds x. fixed ds x ∙ sym (fixed cs (learns_self cs))) (λ y. let q = ap (λ (v : Verdict). v.number) (sym (fixed cs (learns_self cs))) ∙ y in omega arith)
-      placed-keep Clean h Foreign j =
-          let fixed : (ds : List ℕ) → Learns cs ds → J ds ≡ answer 13 _ = λ ds x. each ds x ∙ ap₂ (λ (f : FirstFault) (i : Identified). fields_verdict f (identifier_verdict (guide_of book) ds n hs i)) h j in
+      placed-keep (Ok _) h None j =
+          let fixed : (ds : List ℕ) → Learns cs ds → J ds ≡ answer 13 _ = λ ds x. each ds x ∙ ap₂ (λ (f : Result ⊤ FirstFault) (i : Option ℕ). fields_verdict f (identifier_verdict (guide_of book) ds n hs i)) h j in
           constant J cs (λ ds x. fixed ds x ∙ sym (fixed cs (learns_self cs))) (λ y. let q = ap (λ (v : Verdict). v.number) (sym (fixed cs (learns_self cs))) ∙ y in omega arith)
-      placed-keep Clean h (Known p) j =
+      placed-keep (Ok _) h (Some p) j =
           rows_keep book c.good p n (homes_in book c.well_formed.message) ps J cs
-          (λ ds x. each ds x ∙ ap₂ (λ (f : FirstFault) (i : Identified). fields_verdict f (identifier_verdict (guide_of book) ds n hs i)) h j ∙ ap (rows_verdict n) (rows_are p j ds))
+          (λ ds x. each ds x ∙ ap₂ (λ (f : Result ⊤ FirstFault) (i : Option ℕ). fields_verdict f (identifier_verdict (guide_of book) ds n hs i)) h j ∙ ap (rows_verdict n) (rows_are p j ds))
 
     keeps : Keeps J cs
     keeps = go (eqb (refusal s bs book cs room).number 0) refl

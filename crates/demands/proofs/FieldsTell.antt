@@ -23,9 +23,9 @@ use Rattle.fields.specs.meaning.Number.{GoodMark}
 use Rattle.fields.specs.meaning.Fields.{LeastFault}
 use Rattle.fields.specs.method.Testing.{fault_at, then_first, first_fault}
 use Rattle.fields.specs.declared.fault.Fault.{Fault}
-use Rattle.fields.specs.declared.fault.Fault.TheVariants.{At, Clean}
+use Rattle.std.specs.Prelude.{⊤, Result, Ok, Err}
 use Rattle.fields.specs.declared.passes.FirstFault.{FirstFault}
-use Rattle.fields.specs.declared.passes.FirstFault.TheVariants as first
+use Rattle.fields.specs.method.Testing.{at_fault, first_at}
 use Rattle.fields_laws.proofs.FieldFault.{field_fault}
 use Rattle.fields_laws.proofs.Places.{one_fault}
 use Rattle.framing.specs.meaning.Record.{place}
@@ -34,17 +34,17 @@ use Rattle.framing.specs.declared.verdict.Place.{Place}
 
 -- ---- one first fault at most
 
-element_of : Fault → ℕ
-element_of (At e c) = e
-element_of Clean = 0
+element_of : Result ⊤ Fault → ℕ
+element_of (Err x) = x.element
+element_of (Ok _) = 0
 
-component_of : Fault → ℕ
-component_of (At e c) = c
-component_of Clean = 0
+component_of : Result ⊤ Fault → ℕ
+component_of (Err x) = x.component
+component_of (Ok _) = 0
 
-is_clean : Fault → Bool
-is_clean (At e c) = false
-is_clean Clean = true
+is_clean : Result ⊤ Fault → Bool
+is_clean (Err _) = false
+is_clean (Ok _) = true
 
 module _ (s : Service) (g : Guide) where
   pub one_field_fault : (k : ℕ) (m : Message) (hs : List ℕ) (p q : Place) → FieldFault s g k m hs p → FieldFault s g k m hs q → p ≡ q
@@ -52,17 +52,17 @@ module _ (s : Service) (g : Guide) where
   one_field_fault k [] hs p q a b = absurd a
   one_field_fault k (x ∷ xs) [] p q a b = absurd a
   one_field_fault k (x ∷ xs) (l ∷ ls) p q (inl (e, c, i, h)) (inl (d, b, j, f)) =
-      let z = one_fault s (value_at x) (line_of g l).fields (At e c) (At d b) i j in
-      h ∙ ap (λ (r : Fault). place (suc k) l (element_of r) (component_of r)) z ∙ sym f
-  one_field_fault k (x ∷ xs) (l ∷ ls) p q (inl (e, c, i, h)) (inr (j, b)) = absurd (false≢true (ap is_clean (one_fault s (value_at x) (line_of g l).fields (At e c) Clean i j)))
-  one_field_fault k (x ∷ xs) (l ∷ ls) p q (inr (i, a)) (inl (d, b, j, f)) = absurd (true≢false (ap is_clean (one_fault s (value_at x) (line_of g l).fields Clean (At d b) i j)))
+      let z = one_fault s (value_at x) (line_of g l).fields (at_fault e c) (at_fault d b) i j in
+      h ∙ ap (λ (r : Result ⊤ Fault). place (suc k) l (element_of r) (component_of r)) z ∙ sym f
+  one_field_fault k (x ∷ xs) (l ∷ ls) p q (inl (e, c, i, h)) (inr (j, b)) = absurd (false≢true (ap is_clean (one_fault s (value_at x) (line_of g l).fields (at_fault e c) (Ok tt) i j)))
+  one_field_fault k (x ∷ xs) (l ∷ ls) p q (inr (i, a)) (inl (d, b, j, f)) = absurd (true≢false (ap is_clean (one_fault s (value_at x) (line_of g l).fields (Ok tt) (at_fault d b) i j)))
   one_field_fault k (x ∷ xs) (l ∷ ls) p q (inr (i, a)) (inr (j, b)) = one_field_fault (suc k) xs ls p q a b
 
   pub fault_or_none : (k : ℕ) (m : Message) (hs : List ℕ) (p : Place) → FieldFault s g k m hs p → NoFieldFault s g m hs → ⊥
   unfolding is_clean
   fault_or_none k [] hs p a n = a
   fault_or_none k (x ∷ xs) [] p a n = a
-  fault_or_none k (x ∷ xs) (l ∷ ls) p (inl (e, c, i, h)) (j, n) = false≢true (ap is_clean (one_fault s (value_at x) (line_of g l).fields (At e c) Clean i j))
+  fault_or_none k (x ∷ xs) (l ∷ ls) p (inl (e, c, i, h)) (j, n) = false≢true (ap is_clean (one_fault s (value_at x) (line_of g l).fields (at_fault e c) (Ok tt) i j))
   fault_or_none k (x ∷ xs) (l ∷ ls) p (inr (i, a)) (j, n) = fault_or_none (suc k) xs ls p a n
 
 -- ---- what is found
@@ -71,15 +71,15 @@ module _ (s : Service) (service : GoodService s) (mark : GoodMark s) (book : Lis
   abbrev g : Guide
   g = guide_of book
 
-  pub data FieldsSaid (k : ℕ) (m : Message) (hs : List ℕ) : FirstFault → Type 0 where
-    faulty : (p l e c : ℕ) → FieldFault s g k m hs (place p l e c) → FieldsSaid k m hs (first.At p l e c)
-    clean : NoFieldFault s g m hs → FieldsSaid k m hs first.Clean
+  pub data FieldsSaid (k : ℕ) (m : Message) (hs : List ℕ) : Result ⊤ FirstFault → Type 0 where
+    faulty : (p l e c : ℕ) → FieldFault s g k m hs (place p l e c) → FieldsSaid k m hs (first_at p l e c)
+    clean : NoFieldFault s g m hs → FieldsSaid k m hs (Ok tt)
 
-  said_step : (k l : ℕ) (x : Segment) (xs : Message) (hs : List ℕ) (r : Fault) (f : FirstFault) → LeastFault s (line_of g l).fields (value_at x) r
+  said_step : (k l : ℕ) (x : Segment) (xs : Message) (hs : List ℕ) (r : Result ⊤ Fault) (f : Result ⊤ FirstFault) → LeastFault s (line_of g l).fields (value_at x) r
       → FieldsSaid (suc k) xs hs f → FieldsSaid k (x ∷ xs) (l ∷ hs) (then_first k l r f)
-  said_step k l x xs hs (At e c) f i b = faulty (suc k) l e c (inl (e, c, i, refl))
-  said_step k l x xs hs Clean f i (faulty p j e c b) = faulty p j e c (inr (i, b))
-  said_step k l x xs hs Clean f i (clean b) = clean (i, b)
+  said_step k l x xs hs (Err y) f i b = faulty (suc k) l y.element y.component (inl (y.element, y.component, i, refl))
+  said_step k l x xs hs (Ok _) f i (faulty p j e c b) = faulty p j e c (inr (i, b))
+  said_step k l x xs hs (Ok _) f i (clean b) = clean (i, b)
 
   -- a home is a line of the book
   home_within : (x : Segment) → 0 < home_of g x → home_of g x ≤ g.lines

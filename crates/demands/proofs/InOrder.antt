@@ -9,7 +9,8 @@ use Rattle.guide.specs.meaning.Guide.{guide_of}
 use Rattle.reading.specs.declared.service.Service.{Service}
 use Rattle.guide.specs.meaning.Plan.{plan_in}
 use Rattle.placing.specs.method.Passes.{homes_from, tested}
-use Rattle.placing.specs.declared.passes.Placing.{Placing}
+use Rattle.std.specs.Prelude.{⊤, Result, Ok, Err}
+use Rattle.placing.specs.declared.passes.Unplaced.{Unplaced}
 use Rattle.framing.specs.meaning.Record.{answer}
 use Rattle.framing.specs.method.Stages.{message_stage}
 use Rattle.rules.specs.method.Conditions.{are_truth_values}
@@ -29,7 +30,7 @@ module _ (s : Service) (bs book cs : List ℕ) (room : Room) where
   abbrev placed : Verdict → Verdict
   placed r = placed_stage s bs book cs r.place.at
 
-  abbrev pub of_placing : ℕ → Placing → Verdict
+  abbrev pub of_placing : ℕ → Result ⊤ Unplaced → Verdict
   of_placing n p = then (placing_verdict n p) placed
 
   abbrev pub of_homes : ℕ → Verdict

@@ -16,7 +16,7 @@ use Rattle.placing.specs.meaning.Fitting.{homes_in}
 use Rattle.placing.specs.meaning.Placement.{Placed}
 use Rattle.placing.specs.meaning.Answers.{HaveHomes}
 use Rattle.placing.specs.method.Passes.{homes_from, tested}
-use Rattle.placing.specs.declared.passes.Placing.TheVariants.{Begins}
+use Rattle.std.specs.Prelude.{Ok}
 use Rattle.placing_laws.proofs.Structured.{structured}
 use Rattle.placing_laws.proofs.Messages.{found_homes}
 use Rattle.placing_laws.proofs.Stopping.{tested_allowed}
@@ -62,7 +62,7 @@ module _ (s : Service) (service : GoodService s) (bs book cs : List ℕ) (room :
           let long : c.segments ≡ length w.message = sym found.1 in
           let homes = found_homes s service bs w book good in
           let ends = framed_ends s service bs book good w c.last (ap (frame_of s bs) (sym long) ∙ c.frame) in
-          let begins : tested (plan_in book) (homes_in book w.message) ≡ Begins =
+          let begins : tested (plan_in book) (homes_in book w.message) ≡ Ok tt =
           sym (ap (λ (k : ℕ). tested (plan_in book) (homes_from s bs book k 0)) long ∙ ap (tested (plan_in book)) homes) ∙ stages.placing_passed in
           let allowed = (tested_allowed (plan_in book) (structured book good) (homes_in book w.message) ends).0 begins in
           let few' = leb-true c.segments most_segments c.few in

@@ -28,12 +28,11 @@ use Rattle.placing_laws.proofs.OneIdentifier.{one_identifier}
 use Rattle.reading.specs.meaning.Digit.{is_digit}
 use Rattle.fields.specs.meaning.Number.{GoodMark}
 use Rattle.fields.specs.method.Testing.{first_fault}
+use Rattle.std.specs.Prelude.{⊤, Option, Some, None, Result}
 use Rattle.fields.specs.declared.passes.FirstFault.{FirstFault}
 use Rattle.rules.specs.meaning.Entries.{Entry, entries_of}
 use Rattle.rules.specs.meaning.Identifiers.{identifier_value}
 use Rattle.rules.specs.method.Identifiers.{identified}
-use Rattle.rules.specs.declared.identifier.Identified.{Identified}
-use Rattle.rules.specs.declared.identifier.Identified.TheVariants.{Known, Foreign}
 use Rattle.rules_laws.proofs.Identifiers.{identified_known, identified_foreign, known_identified}
 use Rattle.rules_laws.proofs.Findings.{open_lowest, OpenLowest}
 use Rattle.rules_laws.proofs.Keys.{looks}
@@ -49,7 +48,7 @@ use Rattle.framing.specs.declared.verdict.Verdict.{Verdict}
 use Rattle.reading_laws.proofs.Services.{digit_word}
 use Rattle.demands.proofs.RowsOnTree.{rows_on_tree}
 use Rattle.rules.specs.method.Scanning.{scanned_row}
-use Rattle.rules.specs.declared.finding.Finding.{Finding}
+use Rattle.rules.specs.method.Scanning.{Outcome}
 use Rattle.demands.proofs.RowsTell.{OpensLowest, rows_say}
 use Rattle.demands.proofs.FieldsTell.{FieldsSaid, faulty, clean, fields_said, one_field_fault, fault_or_none}
 use Rattle.demands.proofs.Carrying.{Carried, carried, one_of}
@@ -148,15 +147,15 @@ module _ (s : Service) (service : GoodService s) (mark : GoodMark s) (bs book cs
 
   rows : (p : ℕ) → p < g.identifiers → (rows_verdict n (scanned_row g p cs hs) ≡ v) ↔ RowsSay cs n (entries_of g p hs ps) v
   rows p h =
-      subst (λ (f : Finding). (rows_verdict n f ≡ v) ↔ RowsSay cs n (entries_of g p hs ps) v) (sym (rows_on_tree s service bs book good w t p h cs))
+      subst (λ (f : Outcome). (rows_verdict n f ≡ v) ↔ RowsSay cs n (entries_of g p hs ps) v) (sym (rows_on_tree s service bs book good w t p h cs))
       (rows_say cs n v (entries_of g p hs ps) (looks g p hs ps) (opens p h (entries_of g p hs ps) (open_lowest book good p h hs ps cs)))
 
-  abbrev identifier_of : Identified → ℕ
-  identifier_of (Known p) = p
-  identifier_of Foreign = 0
+  abbrev identifier_of : Option ℕ → ℕ
+  identifier_of (Some p) = p
+  identifier_of None = 0
 
-  rules_tell : (i : Identified) → identified g (identifier_in s g bs starts hs) ≡ i → (identifier_verdict g cs n hs i ≡ v) ↔ RulesSay s bs book cs room m hs ps v
-  rules_tell Foreign e = (λ h. (suc (0 + there.index), value, carries, inl (none, sym h ∙ ap (answer 13) carrier_at)), from)
+  rules_tell : (i : Option ℕ) → identified g (identifier_in s g bs starts hs) ≡ i → (identifier_verdict g cs n hs i ≡ v) ↔ RulesSay s bs book cs room m hs ps v
+  rules_tell None e = (λ h. (suc (0 + there.index), value, carries, inl (none, sym h ∙ ap (answer 13) carrier_at)), from)
     where
       none : (p : ℕ) → InBook g value p → ⊥
       none p i = identified_foreign g (identifier_in s g bs starts hs) e p i.0 (raw ∙ in_book_written book good s service value p i)
@@ -164,7 +163,7 @@ module _ (s : Service) (service : GoodService s) (mark : GoodMark s) (bs book cs
       from : RulesSay s bs book cs room m hs ps v → answer 13 (carrier_place g hs) ≡ v
       from (k, x, c, inl (o, h)) = ap (answer 13) (carrier_at ∙ (only k x c).0) ∙ sym h
       from (k, x, c, inr (p, i, h)) = absurd (none p (subst (λ (y : Component). InBook g y p) (sym (only k x c).1) i))
-  rules_tell (Known p) e = (λ h. (suc (0 + there.index), value, carries, inr (p, there-in, (rows p known.0).0 h)), from)
+  rules_tell (Some p) e = (λ h. (suc (0 + there.index), value, carries, inr (p, there-in, (rows p known.0).0 h)), from)
     where
       known : (p < g.identifiers) × (identifier_in s g bs starts hs ≡ identifier_value g p)
       known = identified_known g (identifier_in s g bs starts hs) p e
@@ -187,7 +186,7 @@ module _ (s : Service) (service : GoodService s) (mark : GoodMark s) (bs book cs
   rest_tells : (Rest ≡ v) ↔ RulesSay s bs book cs room m hs ps v
   rest_tells = rules_tell (identified g (identifier_in s g bs starts hs)) refl
 
-  fields_tell : (f : FirstFault) → FieldsSaid s service mark book good 0 m hs f → (fields_verdict f Rest ≡ v) ↔ PlacedSays s bs book cs room m hs ps v
+  fields_tell : (f : Result ⊤ FirstFault) → FieldsSaid s service mark book good 0 m hs f → (fields_verdict f Rest ≡ v) ↔ PlacedSays s bs book cs room m hs ps v
   fields_tell f (faulty p l e c i) = (λ h. inl (place p l e c, i, sym h), from)
     where
       from : PlacedSays s bs book cs room m hs ps v → verdict 12 (place p l e c) 0 ≡ v

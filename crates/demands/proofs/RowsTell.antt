@@ -11,6 +11,7 @@ use Rattle.rules.specs.meaning.Conditions.{is_unknown}
 use Rattle.rules.specs.method.Scanning.{first_unknown}
 use Rattle.rules_laws.specs.laws.FirstFound.{some, every, found_among}
 use Rattle.rules.specs.meaning.Entries.{Entry, SomeBreaks, EveryBreaks}
+use Rattle.std.specs.Prelude.{Err}
 use Rattle.rules.specs.declared.finding.Finding.TheVariants.{Broken, Unsettled}
 use Rattle.rules_laws.proofs.Fillings.{some_filling, every_filling}
 use Rattle.rules_laws.proofs.Findings.{Names, Lowest}
@@ -64,7 +65,7 @@ module _ (cs : List ℕ) (n : ℕ) (v : Verdict) where
     Said = RowsSay cs n (e ∷ es) v
 
     entry_says : (x y : Bool) → some cs e.conditions e.is_broken_by ≡ x → every cs e.conditions e.is_broken_by ≡ y
-        → (rows_verdict n (cond x (cond y (Broken e.place e.line) (Unsettled e.place e.line (first_unknown cs e.conditions))) (found_among cs es)) ≡ v) ↔ Said
+        → (rows_verdict n (cond x (cond y (Err (Broken e.place e.line)) (Err (Unsettled e.place e.line (first_unknown cs e.conditions)))) (found_among cs es)) ≡ v) ↔ Said
     entry_says true true p q = (λ h. inl (some_breaks p, inl (all, sym h)), from)
       where
         all : EveryBreaks cs e

@@ -91,5 +91,5 @@ Each [] = Unit {0}
 Each (x ∷ xs) = (judged standard x.0 k (x.1 ∷ []) eight ≡ x.2) × Each xs
 
 pub stars : Each table
-unfolding k edition_numbered guide_of all header_rule records_rule home_rule framed_rule edition_rule blocks_rule length_rule counts_rule range_rule kind_rule depth_rule tag_byte_rule tag_rule required_rule selector_rule code_range_rule maximum_rule field_range_rule group_rule line_rule code_byte_rule code_rule field_rule identifier_form_rule identifier_rises identifier_rule next_literal_rule expression_rule no_expression_rule mode_rule row_end_rule required_row_rule row_rule field_rises rising_fields_rule trigger_rule fall_rule frame_rule frames_rule only_frames_rule other_than_rule not_among_rule same_tag_rule same_place_rule told_apart_rule pair_rule carrier_rule deeper_rule around_rule carrier_group_rule structure_rule is_data is_tag_byte value_from kind_of scan_on end_on is_here seek_on same_component least spells is_code is_any_code is_selected_at fits_at target is_placeable is_clear is_passed can_close_all admits stacked advanced walked opened_by noted climb starts_from tested_from is_digit figures starts_digit after_digits is_none are_digits ends_number without_sign is_number cut has_bytes any_bytes has_code fits_text fits_number fits is_missing is_broken names_first test_component test_absent test_components test_rest test_elements fault_at first_fault first_unknown literal reading instances_from scanned_in scanned_from identified_from is_decimal_from frame_from message_stage are_truth_values refusal place_from placed_stage judged
+unfolding k edition_numbered guide_of all header_rule records_rule home_rule framed_rule edition_rule blocks_rule length_rule counts_rule range_rule kind_rule depth_rule tag_byte_rule tag_rule required_rule selector_rule code_range_rule maximum_rule field_range_rule group_rule line_rule code_byte_rule code_rule field_rule identifier_form_rule identifier_rises identifier_rule next_literal_rule expression_rule no_expression_rule mode_rule row_end_rule required_row_rule row_rule field_rises rising_fields_rule trigger_rule fall_rule frame_rule frames_rule only_frames_rule other_than_rule not_among_rule same_tag_rule same_place_rule told_apart_rule pair_rule carrier_rule deeper_rule around_rule carrier_group_rule structure_rule is_data is_tag_byte value_from kind_of scan_on end_on is_here seek_on same_component least spells is_code is_any_code is_selected_at fits_at target is_placeable is_clear is_passed can_close_all admits stacked advanced walked opened_by noted climb starts_from tested_from is_digit figures starts_digit after_digits is_none are_digits ends_number without_sign is_number cut has_bytes any_bytes has_code fits_text fits_number fits is_missing is_broken names_first test_component test_absent test_components test_rest test_elements fault_at first_fault first_unknown literal reading instances_from scanned_in scanned_from identified_from is_decimal_from frame_from message_stage refusal place_from placed_stage judged
 stars = (refl, (refl, (refl, (refl, (refl, (refl, (refl, (refl, (refl, (refl, (refl, (refl, (refl, (refl, (refl, (refl, (refl, (refl, tt))))))))))))))))))

@@ -24,8 +24,9 @@ use Rattle.placing.specs.meaning.Placement.{Placed, parents_of}
 use Rattle.placing.specs.meaning.Answers.{HaveHomes}
 use Rattle.placing.specs.method.Passes.{homes_from, tested}
 use Rattle.placing_laws.specs.laws.Answers as passes
-use Rattle.placing.specs.declared.passes.Placing.{Placing}
-use Rattle.placing.specs.declared.passes.Placing.TheVariants.{Begins, NoHome, Stops}
+use Rattle.std.specs.Prelude.{⊤, Result, Ok, Err}
+use Rattle.placing.specs.declared.passes.Unplaced.{Unplaced}
+use Rattle.placing.specs.declared.passes.Unplaced.TheVariants.{NoHome, Stops}
 use Rattle.placing_laws.proofs.Structured.{structured}
 use Rattle.placing_laws.proofs.Homes.{same_tag, fits_home}
 use Rattle.placing_laws.proofs.Messages.{tested_message}
@@ -38,8 +39,7 @@ use Rattle.judging.specs.method.Table.{placed_stage, judged}
 use Rattle.judging.specs.method.Answers.{placing_verdict}
 use Rattle.framing.specs.meaning.Table.{NoneWrong, Sized, Misplaced, no_unt, BytesSay}
 use Rattle.demands.specs.meaning.Table.{FitConditions, PlacedSays, HomesSay, TableSays}
-use Rattle.framing.specs.declared.survey.Frame.{Frame}
-use Rattle.framing.specs.declared.survey.Frame.TheVariants as frame
+use Rattle.framing.specs.method.Stages.{Frame}
 use Rattle.framing.specs.declared.message.Room.{Room}
 use Rattle.framing.specs.declared.verdict.Verdict.{Verdict}
 use Rattle.book.proofs.Tested.{good_exactly}
@@ -52,7 +52,6 @@ use Rattle.demands.proofs.InOrder.{of_placing, of_homes, of_message, of_conditio
 -- ---- number 2
 
 known_exactly : (cs : List ℕ) → (are_truth_values cs ≡ true) ↔ All (λ c. c ≤ 2) cs
-unfolding are_truth_values
 known_exactly [] = (λ e. tt, λ a. refl)
 known_exactly (c ∷ cs) = (
   λ e. let h = halves (leb c 2) (are_truth_values cs) e in (leb-true c 2 h.0, (known_exactly cs).0 h.1),
@@ -100,16 +99,16 @@ module _ (book : List ℕ) (good : GoodBook book) where
 
 -- of a message whose frame closes
 pub framed_ends : (s : Service) (service : GoodService s) (bs book : List ℕ) (good : GoodBook book) (w : WellFormed s bs) (last : ℕ)
-    → frame_of s bs (length w.message) ≡ frame.Closes last → EndsOnLast (plan_in book) (structured book good) (homes_in book w.message)
+    → frame_of s bs (length w.message) ≡ Ok last → EndsOnLast (plan_in book) (structured book good) (homes_in book w.message)
 framed_ends s service bs book good w last e =
     go w.message w.valid.segments w.valid.non_empty refl
     (none (frame_of s bs (length w.message)) e (frame_says s service bs w))
   where
     is_closed : Frame → Bool
-    is_closed (frame.Misplaced k) = false
-    is_closed (frame.Closes k) = true
+    is_closed (Err _) = false
+    is_closed (Ok _) = true
 
-    none : (f : Frame) → f ≡ frame.Closes last → Framed s service (length w.message) bs 0 0 w.message f → NoneWrong (Misplaced (length w.message)) 0 w.message
+    none : (f : Frame) → f ≡ Ok last → Framed s service (length w.message) bs 0 0 w.message f → NoneWrong (Misplaced (length w.message)) 0 w.message
     none f h (wrong p i) = absurd (false≢true (ap is_closed h))
     none f h (right at i l) = i
 
@@ -131,31 +130,31 @@ module _ (s : Service) (service : GoodService s) (bs book cs : List ℕ) (room :
     abbrev hs : List ℕ
     hs = homes_in book m
 
-    abbrev Found : Placing → Type 0
+    abbrev Found : Result ⊤ Unplaced → Type 0
     Found p = passes.Means (plan_in book) hs p
 
-    one : (p q : Placing) → Found p → Found q → p ≡ q
+    one : (p q : Result ⊤ Unplaced) → Found p → Found q → p ≡ q
     one = one_meaning (plan_in book) (structured book good) hs
 
-    begins : HaveHomes hs → Placed (plan_in book) hs → Found Begins
+    begins : HaveHomes hs → Placed (plan_in book) hs → Found (Ok tt)
     begins h t = (h, ((allowed_ends (plan_in book) (structured book good) hs).1 t).0)
 
-    abbrev is_begins : Placing → Bool
-    is_begins Begins = true
-    is_begins (NoHome k) = false
-    is_begins (Stops k) = false
+    abbrev is_begins : Result ⊤ Unplaced → Bool
+    is_begins (Ok _) = true
+    is_begins (Err (NoHome k)) = false
+    is_begins (Err (Stops k)) = false
 
-    abbrev is_no_home : Placing → Bool
-    is_no_home Begins = false
-    is_no_home (NoHome k) = true
-    is_no_home (Stops k) = false
+    abbrev is_no_home : Result ⊤ Unplaced → Bool
+    is_no_home (Ok _) = false
+    is_no_home (Err (NoHome k)) = true
+    is_no_home (Err (Stops k)) = false
 
     abbrev PlacedIff : Type 0
     PlacedIff = (t : Placed (plan_in book) hs) → (placed_stage s bs book cs n ≡ v) ↔ PlacedSays s bs book cs room m hs (parents_of t.tree) v
 
-    homes_say : EndsOnLast (plan_in book) (structured book good) hs → PlacedIff → (p : Placing) → Found p
+    homes_say : EndsOnLast (plan_in book) (structured book good) hs → PlacedIff → (p : Result ⊤ Unplaced) → Found p
         → (of_placing s bs book cs room n p ≡ v) ↔ HomesSay s bs book cs room m hs v
-    homes_say last later Begins f = (to, from)
+    homes_say last later (Ok _) f = (to, from)
       where
         t : Placed (plan_in book) hs
         t = (allowed_ends (plan_in book) (structured book good) hs).0 (f.1, last)
@@ -164,21 +163,21 @@ module _ (s : Service) (service : GoodService s) (bs book cs : List ℕ) (room :
         to e = inr (f.0, inr (t, (later t).0 e))
 
         from : HomesSay s bs book cs room m hs v → placed_stage s bs book cs n ≡ v
-        from (inl (k, x, e)) = absurd (true≢false (ap is_begins (one Begins (NoHome k) f x)))
-        from (inr (h, inl (k, x, e))) = absurd (true≢false (ap is_begins (one Begins (Stops k) f (h, x))))
+        from (inl (k, x, e)) = absurd (true≢false (ap is_begins (one (Ok tt) (Err (NoHome k)) f x)))
+        from (inr (h, inl (k, x, e))) = absurd (true≢false (ap is_begins (one (Ok tt) (Err (Stops k)) f (h, x))))
         from (inr (h, inr (u, x))) = (later u).1 x
-    homes_say last later (NoHome k) f = (λ e. inl (k, f, sym e), from)
+    homes_say last later (Err (NoHome k)) f = (λ e. inl (k, f, sym e), from)
       where
-        from : HomesSay s bs book cs room m hs v → placing_verdict n (NoHome k) ≡ v
-        from (inl (j, x, e)) = ap (placing_verdict n) (one (NoHome k) (NoHome j) f x) ∙ sym e
-        from (inr (h, inl (j, x, e))) = absurd (true≢false (ap is_no_home (one (NoHome k) (Stops j) f (h, x))))
-        from (inr (h, inr (u, x))) = absurd (true≢false (ap is_no_home (one (NoHome k) Begins f (begins h u))))
-    homes_say last later (Stops k) f = (λ e. inr (f.0, inl (k, f.1, sym e)), from)
+        from : HomesSay s bs book cs room m hs v → placing_verdict n (Err (NoHome k)) ≡ v
+        from (inl (j, x, e)) = ap (placing_verdict n) (one (Err (NoHome k)) (Err (NoHome j)) f x) ∙ sym e
+        from (inr (h, inl (j, x, e))) = absurd (true≢false (ap is_no_home (one (Err (NoHome k)) (Err (Stops j)) f (h, x))))
+        from (inr (h, inr (u, x))) = absurd (true≢false (ap is_no_home (one (Err (NoHome k)) (Ok tt) f (begins h u))))
+    homes_say last later (Err (Stops k)) f = (λ e. inr (f.0, inl (k, f.1, sym e)), from)
       where
-        from : HomesSay s bs book cs room m hs v → placing_verdict n (Stops k) ≡ v
-        from (inl (j, x, e)) = absurd (false≢true (ap is_no_home (one (Stops k) (NoHome j) f x)))
-        from (inr (h, inl (j, x, e))) = ap (placing_verdict n) (one (Stops k) (Stops j) f (h, x)) ∙ sym e
-        from (inr (h, inr (u, x))) = absurd (false≢true (ap is_begins (one (Stops k) Begins f (begins h u))))
+        from : HomesSay s bs book cs room m hs v → placing_verdict n (Err (Stops k)) ≡ v
+        from (inl (j, x, e)) = absurd (false≢true (ap is_no_home (one (Err (Stops k)) (Err (NoHome j)) f x)))
+        from (inr (h, inl (j, x, e))) = ap (placing_verdict n) (one (Err (Stops k)) (Err (Stops j)) f (h, x)) ∙ sym e
+        from (inr (h, inr (u, x))) = absurd (false≢true (ap is_begins (one (Err (Stops k)) (Ok tt) f (begins h u))))
 
     ends : (x : Message) → All ValidSegment x → 0 < length x → length x ≡ n → NoneWrong (Misplaced n) 0 x → EndsOnLast (plan_in book) (structured book good) (homes_in book x)
     ends [] a l e none = absurd (omega arith)

@@ -1,22 +1,19 @@
--- The steps of the functions that test one field: each return is the definition rewritten by the tests that led there.
-use Prim.Native.Nat.{ℕ, suc, ◌-◌, ◌≤◌, ◌<◌}
+-- What the functions that test one field ask of its bytes: whether there are any, and how many count.
+use Prim.Native.Nat.{ℕ, suc, ◌+◌, ◌≤◌, ◌<◌}
 use native.Mathlib.Omega.{arith}
 use mathlib.Core.Path.{◌≡◌, refl, sym, ap, ap₂, ◌∙◌}
 use mathlib.Core.List.{[], ◌∷◌}
 use mathlib.Core.Bool.{Bool, true, false, cond, not, ◌&&◌, ◌||◌}
 use lib.Dec.{eqb, leb}
-use lib.ListN.{length}
-use borrow.Author.Tests.{eq-eqb, ne_eqb, le-leb, lt-leb}
-use Rattle.guide.specs.meaning.Words.{empty_presence, must_presence, number_form, with_element_presence}
+use native.Mathlib.Numerals.{add-one}
+use lib.ListN.{length, get_or, drop, drop_of_length-le}
+use lib.Seq.{drop-cons}
+use borrow.Author.Tests.{le-leb}
 use Rattle.guide.specs.meaning.Guide.{Guide}
-use Rattle.guide.specs.method.Codes.{is_any_code}
-use Rattle.reading.specs.meaning.Component.{value_of}
+use Rattle.reading.specs.meaning.Component.{value_from, kept_or_released, value_of}
 use Rattle.reading.specs.declared.service.Service.{Service}
 use Rattle.fields.specs.meaning.Number.{minus, figures}
-use Rattle.fields.specs.method.Number.{is_number}
 use Rattle.fields.specs.method.Parts.{Raw, has_bytes}
-use Rattle.fields.specs.method.Testing.{has_code, fits_text, fits_number, fits, is_missing, is_broken}
-use Rattle.fields.specs.method.Kept.{Counts}
 
 pub bytes_none : (x : Raw) → length x ≡ 0 → has_bytes x ≡ false
 unfolding has_bytes
@@ -38,89 +35,71 @@ figures_few s (b ∷ bs) = go (eqb b minus || eqb b s.decimal) (figures_few s bs
     go true h = omega arith
     go false h = omega arith
 
-module _ (g : Guide) (f : ℕ) where
-  -- ---- codes
+-- ---- the length of a text
 
-  module _ (x : Raw) (n : ℕ) (e : n ≡ g.value_count f) where
-    pub any_value : n ≡ 0 → true ≡ has_code g f x
-    unfolding has_code
-    any_value z = sym (ap (λ (t : Bool). t || is_any_code g (g.first_value f) (g.value_count f) x) (eq-eqb (g.value_count f) 0 (sym e ∙ z)))
+module _ (s : Service) where
+  -- the next byte either releases, or stands in the value
+  value_next : (r : Bool) (b : ℕ) (bs : Raw)
+      → length (value_from s r (b ∷ bs)) ≡ cond (not r && eqb b s.release) (length (value_from s true bs)) (suc (length (value_from s false bs)))
+  unfolding value_from
+  value_next true b bs = refl
+  value_next false b bs = go (eqb b s.release)
+    where
+      go : (t : Bool) → length (kept_or_released t b (value_from s false bs) (value_from s true bs)) ≡ cond t (length (value_from s true bs)) (suc (length (value_from s false bs)))
+      go true = refl
+      go false = refl
 
-    pub some_value : (first : ℕ) (r : Bool) → (n ≡ 0 → ⊥) → first ≡ g.first_value f → r ≡ is_any_code g first n x → r ≡ has_code g f x
-    unfolding has_code
-    some_value first r z i k =
-        k ∙ ap₂ (λ (a b : ℕ). is_any_code g a b x) i e
-        ∙ sym (ap (λ (t : Bool). t || is_any_code g (g.first_value f) (g.value_count f) x) (ne_eqb (g.value_count f) 0 (λ y. z (e ∙ y))))
+  value_none : (r : Bool) → length (value_from s r []) ≡ 0
+  unfolding value_from
+  value_none r = refl
 
-  -- ---- form and length
+  -- a value has no more bytes than are written
+  value_few : (r : Bool) (x : Raw) → length (value_from s r x) ≤ length x
+  value_few r [] = let z = value_none r in omega arith
+  value_few r (b ∷ bs) = let n = value_next r b bs in let p = value_few true bs in let q = value_few false bs in go (not r && eqb b s.release) n p q
+    where
+      go : (t : Bool) → length (value_from s r (b ∷ bs)) ≡ cond t (length (value_from s true bs)) (suc (length (value_from s false bs)))
+          → length (value_from s true bs) ≤ length bs → length (value_from s false bs) ≤ length bs → length (value_from s r (b ∷ bs)) ≤ length (b ∷ bs)
+      go true n p q = omega arith
+      go false n p q = omega arith
 
-  module _ (s : Service) (x : Raw) (l : ℕ) (e : l ≡ g.longest f) where
-    pub text_long : (releases : ℕ) → Counts s x releases → l < length x - releases → false ≡ fits_text s g f x
-    unfolding fits_text
-    text_long releases c h = sym (ap (λ (t : Bool). t && has_code g f x) (lt-leb (length (value_of s x)) (g.longest f) (omega arith)))
+  -- so many bytes of the value have been counted; is the next byte released?
+  pub record Measuring (x : Raw) (released : Bool) (count at : ℕ) : Type 0 where
+    pub few : count ≤ at
+    pub same : count + length (value_from s released (drop at x)) ≡ length (value_of s x)
 
-    pub text_short : (releases : ℕ) (r : Bool) → Counts s x releases → length x - releases ≤ l → r ≡ has_code g f x → r ≡ fits_text s g f x
-    unfolding fits_text
-    text_short releases r c h k = k ∙ sym (ap (λ (t : Bool). t && has_code g f x) (le-leb (length (value_of s x)) (g.longest f) (omega arith)))
+  module _ (x : Raw) where
+    module _ (released : Bool) (count at : ℕ) (h : at < length x) (i : Measuring x released count at) where
+      by : (t : Bool) → (not released && eqb (get_or x at 0) s.release) ≡ t
+          → length (value_from s released (drop at x)) ≡ cond t (length (value_from s true (drop (at + 1) x))) (suc (length (value_from s false (drop (at + 1) x))))
+      by t e =
+          ap (λ (l : Raw). length (value_from s released l)) (drop-cons x at 0 h) ∙ value_next released (get_or x at 0) (drop (suc at) x)
+          ∙ ap₂ (λ (u : Bool) (n : ℕ). cond u (length (value_from s true (drop n x))) (suc (length (value_from s false (drop n x))))) e (sym (add-one at))
 
-  module _ (s : Service) (x : Raw) where
-    pub number_long : is_number s x ≡ true → leb (figures s x) (g.longest f) ≡ false → false ≡ fits_number s g f x
-    unfolding fits_number
-    number_long i h = sym (ap₂ (λ (t u : Bool). t && (u && has_code g f x)) i h)
+      measuring_releases : (not released && eqb (get_or x at 0) s.release) ≡ true → Measuring x true count (at + 1)
+      measuring_releases e = let n = by true e in let f = i.few in let g = i.same in record { few = omega arith; same = omega arith }
 
-    pub number_short : (r : Bool) → is_number s x ≡ true → leb (figures s x) (g.longest f) ≡ true → r ≡ has_code g f x → r ≡ fits_number s g f x
-    unfolding fits_number
-    number_short r i h k = k ∙ sym (ap₂ (λ (t u : Bool). t && (u && has_code g f x)) i h)
+      measuring_counts : (not released && eqb (get_or x at 0) s.release) ≡ false → Measuring x false (count + 1) (at + 1)
+      measuring_counts e = let n = by false e in let f = i.few in let g = i.same in record { few = omega arith; same = omega arith }
 
-    pub short_number : (l : ℕ) → l ≡ g.longest f → length x ≤ l → true ≡ leb (figures s x) (g.longest f)
-    short_number l e h = let n = figures_few s x in sym (le-leb (figures s x) (g.longest f) (omega arith))
+      pub measuring_on : (is : Bool) (n : ℕ) → is ≡ (not released && eqb (get_or x at 0) s.release) → n ≡ cond is count (count + 1) → Measuring x is n (at + 1)
+      measuring_on true n e k = rw k (measuring_releases (sym e))
+      measuring_on false n e k = rw k (measuring_counts (sym e))
 
-    pub counted_number : (l n : ℕ) → l ≡ g.longest f → n ≡ figures s x → leb n l ≡ leb (figures s x) (g.longest f)
-    counted_number l n e k = ap₂ leb k e
+    pub measuring_done : (released : Bool) (count at : ℕ) → length x ≤ at → Measuring x released count at → count ≡ length (value_of s x)
+    measuring_done released count at h i =
+        let n : length (value_from s released (drop at x)) ≡ 0 = ap (λ (l : Raw). length (value_from s released l)) (drop_of_length-le x h) ∙ value_none released in
+        let g = i.same in omega arith
 
-  pub no_number : (s : Service) (x : Raw) → is_number s x ≡ false → false ≡ fits_number s g f x
-  unfolding fits_number
-  no_number s x i = sym (ap (λ (t : Bool). t && (leb (figures s x) (g.longest f) && has_code g f x)) i)
+module _ (g : Guide) (f : ℕ) (s : Service) (x : Raw) (l : ℕ) (e : l ≡ g.longest f) where
+  pub short_text : length x ≤ l → true ≡ leb (length (value_of s x)) (g.longest f)
+  short_text h = let n = value_few s false x in sym (le-leb (length (value_of s x)) (g.longest f) (omega arith))
 
-  module _ (s : Service) (x : Raw) (n : ℕ) (e : n ≡ g.form f) where
-    pub by_number : (r : Bool) → n ≡ 2 → r ≡ fits_number s g f x → r ≡ fits s g f x
-    unfolding fits
-    by_number r z k = k ∙ sym (ap (λ (t : Bool). cond t (fits_number s g f x) (fits_text s g f x)) (eq-eqb (g.form f) number_form (sym e ∙ z)))
+  pub short_number : length x ≤ l → true ≡ leb (figures s x) (g.longest f)
+  short_number h = let n = figures_few s x in sym (le-leb (figures s x) (g.longest f) (omega arith))
 
-    pub by_text : (r : Bool) → (n ≡ 2 → ⊥) → r ≡ fits_text s g f x → r ≡ fits s g f x
-    unfolding fits
-    by_text r z k = k ∙ sym (ap (λ (t : Bool). cond t (fits_number s g f x) (fits_text s g f x)) (ne_eqb (g.form f) number_form (λ y. z (e ∙ y))))
+-- ---- the steps of each function
 
-  -- ---- presence
+pub ruleset measuring = (measuring_on, measuring_done)
 
-  module _ (n : ℕ) (e : n ≡ g.presence f) (some : Bool) where
-    pub missing_one : n ≡ 1 → true ≡ is_missing g some f
-    unfolding is_missing
-    missing_one z = sym (ap (λ (t : Bool). t || (eqb (g.presence f) with_element_presence && some)) (eq-eqb (g.presence f) must_presence (sym e ∙ z)))
-
-    pub missing_three : (n ≡ 1 → ⊥) → n ≡ 3 → some ≡ is_missing g some f
-    unfolding is_missing
-    missing_three y z =
-        sym (ap₂ (λ (t u : Bool). t || (u && some)) (ne_eqb (g.presence f) must_presence (λ k. y (e ∙ k))) (eq-eqb (g.presence f) with_element_presence (sym e ∙ z)))
-
-    pub missing_not : (n ≡ 1 → ⊥) → (n ≡ 3 → ⊥) → false ≡ is_missing g some f
-    unfolding is_missing
-    missing_not y z =
-        sym (ap₂ (λ (t u : Bool). t || (u && some)) (ne_eqb (g.presence f) must_presence (λ k. y (e ∙ k))) (ne_eqb (g.presence f) with_element_presence (λ k. z (e ∙ k))))
-
-  module _ (s : Service) (some : Bool) (x : Raw) where
-    pub broken_empty : (r : Bool) → length x ≡ 0 → r ≡ is_missing g some f → r ≡ is_broken s g some f x
-    unfolding is_broken
-    broken_empty r h k =
-        k ∙ sym (ap (λ (t : Bool). cond t (eqb (g.presence f) empty_presence || not (fits s g f x)) (is_missing g some f)) (bytes_none x h))
-
-    broken_full : (length x ≡ 0 → ⊥) → is_broken s g some f x ≡ (eqb (g.presence f) empty_presence || not (fits s g f x))
-    unfolding is_broken
-    broken_full h = ap (λ (t : Bool). cond t (eqb (g.presence f) empty_presence || not (fits s g f x)) (is_missing g some f)) (bytes_some x h)
-
-    module _ (h : length x ≡ 0 → ⊥) (n : ℕ) (e : n ≡ g.presence f) where
-      pub broken_zero : n ≡ 0 → true ≡ is_broken s g some f x
-      broken_zero z = sym (broken_full h ∙ ap (λ (t : Bool). t || not (fits s g f x)) (eq-eqb (g.presence f) empty_presence (sym e ∙ z)))
-
-      pub broken_unfit : (r : Bool) → (n ≡ 0 → ⊥) → r ≡ fits s g f x → not r ≡ is_broken s g some f x
-      broken_unfit r z k = ap not k ∙ sym (broken_full h ∙ ap (λ (t : Bool). t || not (fits s g f x)) (ne_eqb (g.presence f) empty_presence (λ y. z (e ∙ y))))
+pub ruleset bytes = (bytes_none, bytes_some)

@@ -1,42 +1,36 @@
-// One element's components against the fields of the line that are left. The fields rise, so each step only asks for the next.
-ghost use Rattle.std.specs.Prelude.{◌≡◌, ◌+◌, ◌≤◌, ◌^◌, false, length, drop};
+// One element's components against the fields of the line that are left, which are a range of the book's. The fields rise, so each step
+// only asks for the next.
+ghost use Rattle.std.specs.Prelude.{◌≡◌, ◌≤◌, false, length, drop};
 ghost use Rattle.guide.specs.meaning.Guide.{guide_of};
 ghost use Rattle.fields.specs.method.Parts.{cut, components_in};
 ghost use Rattle.fields.specs.method.Testing.{kept, names_first, test_component, test_absent, test_components, test_element};
-ghost use Rattle.fields.specs.method.Kept.{Counts, fields_from, tested_by, StepWithin, ClosesBy, when_closed};
+ghost use Rattle.fields.specs.method.Kept.{fields_in, tested_by, FaultWithin, ClosesBy, when_closed};
 
+use crate::fault::Fault;
 use crate::{field, parts};
 use guide::layout;
 use reading::service::Service;
+use std::ops::Range;
 
-// Some fields have been tested: this component is at fault, or that field is the next.
-#[derive(Clone, Copy)]
-pub enum Step {
-    Fault(usize),
-    Next(u32),
+// An element without a fault: where it ends, and the fields that are left.
+#[derive(Drop)]
+pub struct Closed {
+    pub end: usize,
+    pub left: Range<u32>,
 }
 
-// An element has been tested: this component is at fault, or it ends at that offset and that field is the next.
-#[derive(Clone, Copy)]
-pub enum Closing {
-    Fault(usize),
-    Closed(usize, u32),
-}
-
-// Does the next field name this component? The line's fields end before `last`.
-fn names_next(book: &[u8], element: usize, component: usize, field: u32, last: u32) -> bool
-    requires { field ≤ last }
-    ensures { result ≡ names_first (guide_of book.now) element component (fields_from field last) }
+// Does the first of the fields that are left name this component?
+#[tactic(auto, using(crate::proofs::Stepping::naming))]
+fn names_first(book: &[u8], element: usize, component: usize, left: &Range<u32>) -> bool
+    ensures { result ≡ names_first (guide_of book.now) element component (fields_in left.now) }
 {
-    if field >= last {
-        return false;
-    }
-    if layout::element(book, field) as usize != element {
-        return false;
-    }
-    layout::component(book, field) as usize == component
+    left.start < left.end
+        && layout::element(book, left.start) as usize == element
+        && layout::component(book, left.start) as usize == component
 }
 
+// The fields that are left behind this component.
+#[tactic(auto, using(crate::proofs::Stepping::one_component))]
 fn test_component(
     service: Service,
     book: &[u8],
@@ -44,44 +38,51 @@ fn test_component(
     element: usize,
     component: usize,
     part: &[u8],
-    releases: usize,
-    field: u32,
-    last: u32,
-) -> Step
-    requires { Counts service part.now releases × (field ≤ last) × (last ≤ 2 ^ 17) }
-    ensures { (test_component service (guide_of book.now) some element component part.now (fields_from field last) ≡ tested_by last result) × StepWithin component last result }
+    left: Range<u32>,
+) -> Result<Range<u32>, Fault>
+    ensures value { test_component service (guide_of book.now) some element component part.now (fields_in left) ≡ tested_by result }
+    ensures within { FaultWithin element component result }
 {
-    if names_next(book, element, component, field, last) {
-        if field::is_broken(service, book, some, field, part, releases) {
-            return Step::Fault(component);
+    let fault = Fault { element, component };
+    if names_first(book, element, component, &left) {
+        if field::is_broken(service, book, some, left.start, part) {
+            return Err(fault);
         }
-        return Step::Next(field + 1);
+        return Ok(left.start + 1..left.end);
     }
-    if part.len() > 0 {
-        return Step::Fault(component);
+    if part.is_empty() {
+        Ok(left)
+    } else {
+        Err(fault)
     }
-    Step::Next(field)
 }
 
 // The fields of the element beyond its last component.
-fn test_absent(book: &[u8], some: bool, element: usize, first: u32, last: u32) -> Step
-    requires { first ≤ last }
-    ensures { (test_absent (guide_of book.now) some element (fields_from first last) ≡ tested_by last result) × StepWithin 255 last result }
+#[tactic(auto, using(crate::proofs::Stepping::absent))]
+fn test_absent(
+    book: &[u8],
+    some: bool,
+    element: usize,
+    left: Range<u32>,
+) -> Result<Range<u32>, Fault>
+    ensures value { test_absent (guide_of book.now) some element (fields_in left) ≡ tested_by result }
+    ensures within { FaultWithin element 255 result }
 {
-    let mut field = first;
-    while field < last {
+    let last = left.end;
+    for field in left {
         if layout::element(book, field) as usize != element {
-            return Step::Next(field);
+            return Ok(field..last);
         }
         if field::is_missing(book, some, field) {
-            return Step::Fault(layout::component(book, field) as usize);
+            let component = layout::component(book, field) as usize;
+            return Err(Fault { element, component });
         }
-        field += 1;
     }
-    Step::Next(field)
+    Ok(last..last)
 }
 
 // Its components, from the first on.
+#[tactic(auto, using(crate::proofs::Stepping::going))]
 fn test_components(
     service: Service,
     message: &[u8],
@@ -89,43 +90,24 @@ fn test_components(
     book: &[u8],
     some: bool,
     element: usize,
-    first: u32,
-    last: u32,
-) -> Closing
-    requires { (from ≤ length message.now) × (first ≤ last) × (last ≤ 2 ^ 17) }
-    ensures { (test_components service (guide_of book.now) some element 1 (components_in (cut service false (drop from message.now))) (fields_from first last) ≡ when_closed result (λ f. test_absent (guide_of book.now) some element (fields_from f last))) × ClosesBy service message.now from last result }
+    mut left: Range<u32>,
+) -> Result<Closed, Fault>
+    requires { from ≤ length message.now }
+    ensures value { test_components service (guide_of book.now) some element 1 (components_in (cut service false (drop from message.now))) (fields_in left) ≡ when_closed result (λ left. test_absent (guide_of book.now) some element (fields_in left)) }
+    ensures closes { ClosesBy service message.now from element result }
 {
     let mut component: usize = 1;
     let mut start = from;
-    let mut field = first;
+    // Stays: it goes from mark to mark, and how many components there are shows only at the last.
     loop {
-        let at = start;
-        let part = parts::read_component(service, message, at);
-        let end = part.end;
-        let releases = part.releases;
-        match test_component(
-            service,
-            book,
-            some,
-            element,
-            component,
-            &message[at..end],
-            releases,
-            field,
-            last,
-        ) {
-            Step::Fault(fault) => {
-                return Closing::Fault(fault);
-            }
-            Step::Next(next) => {
-                if !parts::opens_component(service, message, end) {
-                    return Closing::Closed(end, next);
-                }
-                field = next;
-                component += 1;
-                start = end + 1;
-            }
+        let end = parts::component_end(service, message, start);
+        let part = &message[start..end];
+        left = test_component(service, book, some, element, component, part, left)?;
+        if !parts::opens_component(service, message, end) {
+            return Ok(Closed { end, left });
         }
+        component += 1;
+        start = end + 1;
     }
 }
 
@@ -135,18 +117,17 @@ pub fn test_element(
     from: usize,
     book: &[u8],
     element: usize,
-    first: u32,
-    last: u32,
-) -> Closing
-    requires { (from ≤ length message.now) × (first ≤ last) × (last ≤ 2 ^ 17) }
-    ensures { (test_element service (guide_of book.now) element (components_in (cut service false (drop from message.now))) (fields_from first last) ≡ when_closed result (λ f. kept (fields_from f last))) × ClosesBy service message.now from last result }
+    left: Range<u32>,
+) -> Result<Closed, Fault>
+    requires { from ≤ length message.now }
+    ensures value { test_element service (guide_of book.now) element (components_in (cut service false (drop from message.now))) (fields_in left) ≡ when_closed result (λ left. kept (fields_in left)) }
+    ensures closes { ClosesBy service message.now from element result }
 {
     let some = parts::has_bytes(service, message, from);
-    match test_components(service, message, from, book, some, element, first, last) {
-        Closing::Fault(fault) => Closing::Fault(fault),
-        Closing::Closed(end, next) => match test_absent(book, some, element, next, last) {
-            Step::Fault(fault) => Closing::Fault(fault),
-            Step::Next(field) => Closing::Closed(end, field),
-        },
-    }
+    let closed = test_components(service, message, from, book, some, element, left)?;
+    let left = test_absent(book, some, element, closed.left)?;
+    Ok(Closed {
+        end: closed.end,
+        left,
+    })
 }

@@ -2,72 +2,67 @@
 ghost use Rattle.std.specs.Prelude.{◌≡◌, ◌+◌, ◌≤◌, length, drop};
 ghost use Rattle.guide.specs.meaning.Guide.{guide_of};
 ghost use Rattle.fields.specs.method.Testing.{test_rest, fault_at, InReach};
-ghost use Rattle.fields.specs.method.Kept.{fields_from};
+ghost use Rattle.fields.specs.method.Kept.{fields_in};
 
-use crate::element::Closing;
 use crate::{element, field, parts};
 use guide::layout;
 use reading::service::Service;
+use std::ops::Range;
 
-// 01, number 12: the smallest (element, component) at fault, or none.
-#[derive(Clone, Copy)]
-pub enum Fault {
-    At(usize, usize),
-    Clean,
+// 01, number 12: a place at fault in its segment.
+#[derive(Clone, Copy, PartialEq, Eq, Debug)]
+pub struct Fault {
+    pub element: usize,
+    pub component: usize,
 }
 
 // Where the bytes behind the segment's tag start; the message's end where there are none.
 fn behind_tag(message: &[u8], at: usize) -> usize
-    ensures { (drop result message.now ≡ drop (at + 3) message.now) × (result ≤ length message.now) }
+    ensures bytes { drop result message.now ≡ drop (at + 3) message.now }
+    ensures within { result ≤ length message.now }
 {
-    let length = message.len();
-    if length < 3 {
-        return length;
-    }
-    if at > length - 3 {
-        return length;
-    }
-    at + 3
+    at.saturating_add(3).min(message.len())
 }
 
 // The fields of elements beyond the segment's last.
-fn test_rest(book: &[u8], first: u32, last: u32) -> Fault
-    requires { first ≤ last }
-    ensures { (result ≡ test_rest (guide_of book.now) (fields_from first last)) × InReach 0 result }
+#[tactic(auto, using(crate::proofs::Stepping::rest))]
+fn test_rest(book: &[u8], left: Range<u32>) -> Result<(), Fault>
+    ensures value { result ≡ test_rest (guide_of book.now) (fields_in left) }
+    ensures near { InReach 0 result }
 {
-    let mut field = first;
-    while field < last {
+    for field in left {
         if field::is_missing(book, false, field) {
-            return Fault::At(
-                layout::element(book, field) as usize,
-                layout::component(book, field) as usize,
-            );
+            return Err(Fault {
+                element: layout::element(book, field) as usize,
+                component: layout::component(book, field) as usize,
+            });
         }
-        field += 1;
     }
-    Fault::Clean
+    Ok(())
 }
 
-pub fn find_fault(service: Service, message: &[u8], at: usize, book: &[u8], line: u32) -> Fault
-    ensures { (result ≡ fault_at service (guide_of book.now) message.now at line) × InReach (length message.now) result }
+// 01, number 12: the smallest (element, component) at fault, if any is.
+#[tactic(auto, using(crate::proofs::Stepping::passing))]
+pub fn find_fault(
+    service: Service,
+    message: &[u8],
+    at: usize,
+    book: &[u8],
+    line: u32,
+) -> Result<(), Fault>
+    ensures value { result ≡ fault_at service (guide_of book.now) message.now at line }
+    ensures near { InReach (length message.now) result }
 {
-    let mut field = layout::first_field(book, line);
-    let last = field + layout::field_count(book, line);
+    let first = layout::first_field(book, line);
+    let mut left = first..first + layout::field_count(book, line);
     let mut element: usize = 0;
     let mut end = parts::skip_to_element(service, message, behind_tag(message, at));
-    loop {
-        if !parts::opens_element(service, message, end) {
-            return test_rest(book, field, last);
-        }
+    // Stays: it goes from mark to mark, and how many elements there are shows only at the last.
+    while parts::opens_element(service, message, end) {
         element += 1;
-        match element::test_element(service, message, end + 1, book, element, field, last) {
-            Closing::Fault(component) => {
-                return Fault::At(element, component);
-            }
-            Closing::Closed(closed, next) => {
-                field = next;
-                end = closed;
-            }
-        }
+        let closed = element::test_element(service, message, end + 1, book, element, left)?;
+        left = closed.left;
+        end = closed.end;
     }
+    test_rest(book, left)
 }

@@ -1,99 +1,89 @@
 // One field and the component that it names, as it is written.
-ghost use Rattle.std.specs.Prelude.{◌≡◌, leb};
+ghost use Rattle.std.specs.Prelude.{◌≡◌, leb, length};
 ghost use Rattle.guide.specs.meaning.Guide.{guide_of};
+ghost use Rattle.reading.specs.meaning.Component.{value_of};
 ghost use Rattle.fields.specs.meaning.Number.{figures};
 ghost use Rattle.fields.specs.method.Testing.{has_code, fits_text, fits_number, fits, is_missing, is_broken};
-ghost use Rattle.fields.specs.method.Kept.{Counts};
 
-use crate::number;
-use guide::words::{FORM_NUMBER, PRESENCE_EMPTY, PRESENCE_MUST, PRESENCE_WITH_ELEMENT};
+use crate::{number, parts};
+use guide::words::{Form, Presence};
 use guide::{code, layout};
 use reading::service::Service;
 
+#[tactic(auto, unfolding(crate::specs::method::Testing::has_code))]
 fn has_code(book: &[u8], field: u32, part: &[u8]) -> bool
     ensures { result ≡ has_code (guide_of book.now) field part.now }
 {
     let count = layout::value_count(book, field) as u16;
-    if count == 0 {
-        return true;
-    }
     let first = layout::first_value(book, field) as u16;
-    code::is_any_code(book, first, count, part)
+    count == 0 || code::is_any_code(book, first, count, part)
 }
 
-fn fits_text(service: Service, book: &[u8], field: u32, part: &[u8], releases: usize) -> bool
-    requires { Counts service part.now releases }
-    ensures { result ≡ fits_text service (guide_of book.now) field part.now }
+// Does a text's length keep the field's? It is not above the number of bytes, so a short text need not be counted.
+#[tactic(auto, using(crate::proofs::Fitting::short_text))]
+fn is_short_text(service: Service, book: &[u8], field: u32, part: &[u8]) -> bool
+    ensures { result ≡ leb (length (value_of service part.now)) ((guide_of book.now).longest field) }
 {
-    if part.len() - releases > layout::longest(book, field) as usize {
-        return false;
-    }
-    has_code(book, field, part)
+    let longest = layout::longest(book, field) as usize;
+    part.len() <= longest || parts::value_length(service, part) <= longest
 }
 
-// Does a number's length keep the field's? It has no more figures than bytes, so a short one need not be counted.
-fn is_short(service: Service, book: &[u8], field: u32, part: &[u8]) -> bool
+// The same of a number, whose figures count.
+// Stays: one function over both would take the count as a closure, and say of it what this line says.
+#[tactic(auto, using(crate::proofs::Fitting::short_number))]
+fn is_short_number(service: Service, book: &[u8], field: u32, part: &[u8]) -> bool
     ensures { result ≡ leb (figures service part.now) ((guide_of book.now).longest field) }
 {
     let longest = layout::longest(book, field) as usize;
-    if part.len() <= longest {
-        return true;
-    }
-    number::count_figures(service, part) <= longest
+    part.len() <= longest || number::count_figures(service, part) <= longest
 }
 
+#[tactic(auto, unfolding(crate::specs::method::Testing::fits_text))]
+fn fits_text(service: Service, book: &[u8], field: u32, part: &[u8]) -> bool
+    ensures { result ≡ fits_text service (guide_of book.now) field part.now }
+{
+    is_short_text(service, book, field, part) && has_code(book, field, part)
+}
+
+#[tactic(auto, unfolding(crate::specs::method::Testing::fits_number))]
 fn fits_number(service: Service, book: &[u8], field: u32, part: &[u8]) -> bool
     ensures { result ≡ fits_number service (guide_of book.now) field part.now }
 {
-    if !number::is_number(service, part) {
-        return false;
-    }
-    if !is_short(service, book, field, part) {
-        return false;
-    }
-    has_code(book, field, part)
+    number::is_number(service, part)
+        && is_short_number(service, book, field, part)
+        && has_code(book, field, part)
 }
 
-fn fits(service: Service, book: &[u8], field: u32, part: &[u8], releases: usize) -> bool
-    requires { Counts service part.now releases }
+#[tactic(auto, unfolding(crate::specs::method::Testing::fits))]
+fn fits(service: Service, book: &[u8], field: u32, part: &[u8]) -> bool
     ensures { result ≡ fits service (guide_of book.now) field part.now }
 {
-    if layout::form(book, field) == FORM_NUMBER {
-        return fits_number(service, book, field, part);
+    if Form::try_from(layout::form(book, field)) == Ok(Form::Number) {
+        fits_number(service, book, field, part)
+    } else {
+        fits_text(service, book, field, part)
     }
-    fits_text(service, book, field, part, releases)
 }
 
 // Is an empty component one that must have bytes? `some`: its element has.
+#[tactic(auto, unfolding(crate::specs::method::Testing::is_missing))]
 pub fn is_missing(book: &[u8], some: bool, field: u32) -> bool
     ensures { result ≡ is_missing (guide_of book.now) some field }
 {
-    let presence = layout::presence(book, field);
-    if presence == PRESENCE_MUST {
-        return true;
+    match Presence::try_from(layout::presence(book, field)) {
+        Ok(Presence::Must) => true,
+        Ok(Presence::WithElement) => some,
+        _ => false,
     }
-    if presence == PRESENCE_WITH_ELEMENT {
-        return some;
-    }
-    false
 }
 
-pub fn is_broken(
-    service: Service,
-    book: &[u8],
-    some: bool,
-    field: u32,
-    part: &[u8],
-    releases: usize,
-) -> bool
-    requires { Counts service part.now releases }
+#[tactic(auto, using(crate::proofs::Fitting::bytes), unfolding(crate::specs::method::Testing::is_broken))]
+pub fn is_broken(service: Service, book: &[u8], some: bool, field: u32, part: &[u8]) -> bool
     ensures { result ≡ is_broken service (guide_of book.now) some field part.now }
 {
-    if part.len() == 0 {
+    if part.is_empty() {
         return is_missing(book, some, field);
     }
-    if layout::presence(book, field) == PRESENCE_EMPTY {
-        return true;
-    }
-    !fits(service, book, field, part, releases)
+    Presence::try_from(layout::presence(book, field)) == Ok(Presence::Empty)
+        || !fits(service, book, field, part)
 }

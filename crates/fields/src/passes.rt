@@ -4,17 +4,19 @@ ghost use Rattle.guide.specs.meaning.Guide.{guide_of};
 ghost use Rattle.fields.specs.method.Testing.{first_fault, FirstInReach};
 
 use crate::fault;
-use crate::fault::Fault;
 use reading::service::Service;
 
-// 01, number 12: the first place, counted from 1, its line, and the smallest (element, component) at fault there; or none.
-#[derive(Clone, Copy)]
-pub enum FirstFault {
-    At(u32, u32, usize, usize),
-    Clean,
+// 01, number 12: the first place, counted from 1, its line, and the smallest (element, component) at fault there.
+#[derive(Clone, Copy, PartialEq, Eq, Debug)]
+pub struct FirstFault {
+    pub place: u32,
+    pub line: u32,
+    pub element: usize,
+    pub component: usize,
 }
 
 // Tests so many segments, as far as both tables reach: each one starts where the table says, and its home is its line.
+#[tactic(auto, using(crate::proofs::Segments::testing))]
 pub fn test_fields(
     service: Service,
     message: &[u8],
@@ -22,26 +24,24 @@ pub fn test_fields(
     book: &[u8],
     starts: &[u32],
     homes: &[u32],
-) -> FirstFault
-    ensures { (result ≡ first_fault service (guide_of book.now) message.now 0 (take segments starts.now) (take segments homes.now)) × FirstInReach (length message.now) result }
+) -> Result<(), FirstFault>
+    ensures value { result ≡ first_fault service (guide_of book.now) message.now 0 (take segments starts.now) (take segments homes.now) }
+    ensures near { FirstInReach (length message.now) result }
 {
-    let mut place: u32 = 0;
-    while place < segments {
-        let at = place as usize;
-        if at >= starts.len() {
-            return FirstFault::Clean;
+    for before in 0..segments {
+        let at = before as usize;
+        if at >= starts.len() || at >= homes.len() {
+            return Ok(());
         }
-        if at >= homes.len() {
-            return FirstFault::Clean;
-        }
-        place += 1;
         let line = homes[at];
-        match fault::find_fault(service, message, starts[at] as usize, book, line) {
-            Fault::At(element, component) => {
-                return FirstFault::At(place, line, element, component);
-            }
-            Fault::Clean => {}
+        if let Err(fault) = fault::find_fault(service, message, starts[at] as usize, book, line) {
+            return Err(FirstFault {
+                place: before + 1,
+                line,
+                element: fault.element,
+                component: fault.component,
+            });
         }
     }
-    FirstFault::Clean
+    Ok(())
 }

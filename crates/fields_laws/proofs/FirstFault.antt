@@ -9,14 +9,13 @@ use Rattle.guide.specs.meaning.Guide.{Guide}
 use Rattle.reading.specs.declared.service.Service.{Service}
 use Rattle.fields.specs.method.Testing.{fault_at, then_first, first_fault}
 use Rattle.fields_laws.specs.laws.FirstFault.{CleanAt, FirstMeans}
+use Rattle.std.specs.Prelude.{Result, Ok, Err}
 use Rattle.fields.specs.declared.fault.Fault.{Fault}
-use Rattle.fields.specs.declared.fault.Fault.TheVariants.{At, Clean}
 use Rattle.fields.specs.declared.passes.FirstFault.{FirstFault}
-use Rattle.fields.specs.declared.passes.FirstFault.TheVariants as first
 
 module _ (s : Service) (g : Guide) (bs : List ℕ) where
   -- a segment without a fault, and what is said of those behind it
-  module _ (k at line : ℕ) (starts homes : List ℕ) (clean : fault_at s g bs at line ≡ Clean) where
+  module _ (k at line : ℕ) (starts homes : List ℕ) (clean : fault_at s g bs at line ≡ Ok tt) where
     none_at : (n : ℕ) → ((j : ℕ) → j < n → CleanAt s g bs starts homes j) → (j : ℕ) → j < suc n → CleanAt s g bs (at ∷ starts) (line ∷ homes) j
     none_at n h zero l = clean
     none_at n h (suc j) l = h j (omega arith)
@@ -26,8 +25,8 @@ module _ (s : Service) (g : Guide) (bs : List ℕ) where
     all_clean h zero l m = clean
     all_clean h (suc j) l m = h j (omega arith) (omega arith)
 
-    one_more_lem : (r : FirstFault) → FirstMeans s g bs (suc k) starts homes r → FirstMeans s g bs k (at ∷ starts) (line ∷ homes) r
-    one_more_lem (first.At place there e c) f =
+    one_more_lem : (r : Result (Unit {0}) FirstFault) → FirstMeans s g bs (suc k) starts homes r → FirstMeans s g bs k (at ∷ starts) (line ∷ homes) r
+    one_more_lem (Err x) f =
         record {
           before = suc f.before;
           counted = f.counted ∙ omega arith;
@@ -37,7 +36,7 @@ module _ (s : Service) (g : Guide) (bs : List ℕ) where
           there = f.there;
           none_before = none_at f.before f.none_before;
         }
-    one_more_lem first.Clean h = all_clean h
+    one_more_lem (Ok _) h = all_clean h
 
   pub first_fault_lem : (k : ℕ) (starts homes : List ℕ) → FirstMeans s g bs k starts homes (first_fault s g bs k starts homes)
   unfolding first_fault
@@ -45,9 +44,9 @@ module _ (s : Service) (g : Guide) (bs : List ℕ) where
   first_fault_lem k (at ∷ starts) [] = λ j l m. absurd (omega arith)
   first_fault_lem k (at ∷ starts) (line ∷ homes) = go (fault_at s g bs at line) refl (first_fault_lem (suc k) starts homes)
     where
-      go : (x : Fault) → fault_at s g bs at line ≡ x → FirstMeans s g bs (suc k) starts homes (first_fault s g bs (suc k) starts homes)
+      go : (x : Result (Unit {0}) Fault) → fault_at s g bs at line ≡ x → FirstMeans s g bs (suc k) starts homes (first_fault s g bs (suc k) starts homes)
           → FirstMeans s g bs k (at ∷ starts) (line ∷ homes) (then_first k line x (first_fault s g bs (suc k) starts homes))
-      go (At e c) i h =
+      go (Err y) i h =
           record {
             before = 0;
             counted = omega arith;
@@ -57,4 +56,4 @@ module _ (s : Service) (g : Guide) (bs : List ℕ) where
             there = i;
             none_before = λ j l. absurd (omega arith);
           }
-      go Clean i h = one_more_lem k at line starts homes i (first_fault s g bs (suc k) starts homes) h
+      go (Ok _) i h = one_more_lem k at line starts homes i (first_fault s g bs (suc k) starts homes) h

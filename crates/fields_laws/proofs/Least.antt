@@ -17,9 +17,9 @@ use Rattle.fields.specs.meaning.Fields.In.{here, there}
 use Rattle.fields.specs.meaning.Fields.Faulty.{named, unnamed}
 use Rattle.fields.specs.meaning.Fields.Before.{sooner, beside}
 use Rattle.fields.specs.method.Parts.{Raw, has_bytes, any_bytes}
-use Rattle.fields.specs.method.Testing.{is_missing, is_broken, Tested, broken, kept, then_test, test_component, test_absent, test_components, then_fault, test_rest, test_elements}
+use Rattle.fields.specs.method.Testing.{is_missing, is_broken, Tested, broken, kept, then_test, test_component, test_absent, test_components, then_fault, test_rest, test_elements, at_fault}
+use Rattle.std.specs.Prelude.{Result}
 use Rattle.fields.specs.declared.fault.Fault.{Fault}
-use Rattle.fields.specs.declared.fault.Fault.TheVariants.{At}
 use Rattle.fields_laws.proofs.Pieces.{raw_of}
 use Rattle.fields_laws.proofs.Broken.{raw_has, raw_empty, Known, Tests, broken_none}
 use Rattle.fields_laws.proofs.Places.{From, later, along, from_trans, before_trans, before_not, before_from, weaker, from_next, from_element, rest_of_element, nothing_in, Ahead, Rises, numbered, LeastFrom, skip, clean_from, faulty_here, clear_here, passed, calm, first_kept}
@@ -58,22 +58,22 @@ module _ (s : Service) (g : Guide) (v : Values) where
   -- ---- one place
 
   -- a component that no field names
-  unmatched : (fs : List ℕ) (e c : ℕ) (x : Raw) (r : Fault) → Ahead e (suc c) (of fs) → x ≡ raw_of s (v e c) → LeastFrom s v (of fs) e (suc c) r
-      → LeastFrom s v (of fs) e c (cond (has_bytes x) (At e c) r)
+  unmatched : (fs : List ℕ) (e c : ℕ) (x : Raw) (r : Result (Unit {0}) Fault) → Ahead e (suc c) (of fs) → x ≡ raw_of s (v e c) → LeastFrom s v (of fs) e (suc c) r
+      → LeastFrom s v (of fs) e c (cond (has_bytes x) (at_fault e c) r)
   unmatched fs e c x r a z l = go (has_bytes x) refl
     where
       ahead : (h : Field) → In h (of fs) → Before e c h.element h.component
       ahead h i = before_trans e c e (suc c) _ _ (beside refl (omega arith)) (a h i)
 
-      go : (t : Bool) → has_bytes x ≡ t → LeastFrom s v (of fs) e c (cond t (At e c) r)
+      go : (t : Bool) → has_bytes x ≡ t → LeastFrom s v (of fs) e c (cond t (at_fault e c) r)
       go true h =
           faulty_here s v (of fs) e c
           (unnamed (λ f i p q. before_not e c _ _ (ahead f i) p q) (raw_has s (v e c) (ap has_bytes (sym z) ∙ h)))
       go false h = clear_here s v (of fs) e c r (calm s v (of fs) e c (raw_empty s (v e c) (ap has_bytes (sym z) ∙ h)) ahead) l
 
   -- the place of the first field
-  matched : (f : ℕ) (fs : List ℕ) (e c : ℕ) (x : Raw) (some : Bool) (r : Fault) → Rises (of (f ∷ fs)) → Tests s g v f → g.element f ≡ e → g.component f ≡ c
-      → x ≡ raw_of s (v e c) → Known v e some → LeastFrom s v (of fs) e (suc c) r → LeastFrom s v (of (f ∷ fs)) e c (cond (is_broken s g some f x) (At e c) r)
+  matched : (f : ℕ) (fs : List ℕ) (e c : ℕ) (x : Raw) (some : Bool) (r : Result (Unit {0}) Fault) → Rises (of (f ∷ fs)) → Tests s g v f → g.element f ≡ e → g.component f ≡ c
+      → x ≡ raw_of s (v e c) → Known v e some → LeastFrom s v (of fs) e (suc c) r → LeastFrom s v (of (f ∷ fs)) e c (cond (is_broken s g some f x) (at_fault e c) r)
   matched f fs e c x some r rise test p q z k l = go (is_broken s g some f x) refl
     where
       same : x ≡ raw_of s (v (g.element f) (g.component f))
@@ -88,7 +88,7 @@ module _ (s : Service) (g : Guide) (v : Values) where
       back : Faulty s (of (f ∷ fs)) v e c → Faulty s (of (f ∷ fs)) v (g.element f) (g.component f)
       back y = subst (λ (w : ℕ). Faulty s (of (f ∷ fs)) v w (g.component f)) (sym p) (subst (λ (w : ℕ). Faulty s (of (f ∷ fs)) v e w) (sym q) y)
 
-      go : (t : Bool) → is_broken s g some f x ≡ t → LeastFrom s v (of (f ∷ fs)) e c (cond t (At e c) r)
+      go : (t : Bool) → is_broken s g some f x ≡ t → LeastFrom s v (of (f ∷ fs)) e c (cond t (at_fault e c) r)
       go true h =
           faulty_here s v (of (f ∷ fs)) e c
           (to (named (field_of g f) here refl refl (test.breaks some known (ap (is_broken s g some f) (sym same) ∙ h))))
@@ -100,7 +100,7 @@ module _ (s : Service) (g : Guide) (v : Values) where
   -- ---- over empty places
 
   -- to the next element, where the rest of this one is empty and has no field
-  pub end_element : (fs : List ℕ) (e c : ℕ) (r : Fault) → Ahead (suc e) 0 (of fs) → ((y : ℕ) → c ≤ y → v e y ≡ []) → LeastFrom s v (of fs) (suc e) 0 r
+  pub end_element : (fs : List ℕ) (e c : ℕ) (r : Result (Unit {0}) Fault) → Ahead (suc e) 0 (of fs) → ((y : ℕ) → c ≤ y → v e y ≡ []) → LeastFrom s v (of fs) (suc e) 0 r
       → LeastFrom s v (of fs) e c r
   end_element fs e c r a z l = skip s v (of fs) e c (suc e) 0 r (later (omega arith)) clear l
     where
@@ -110,7 +110,7 @@ module _ (s : Service) (g : Guide) (v : Values) where
           calm s v (of fs) x y (ap (λ (w : ℕ). v w y) o.0 ∙ z y o.1) (λ h m. before_trans x y (suc e) 0 _ _ j (a h m))
 
   -- to the first field
-  to_first : (f : ℕ) (fs : List ℕ) (e c : ℕ) (r : Fault) → Left (f ∷ fs) e c
+  to_first : (f : ℕ) (fs : List ℕ) (e c : ℕ) (r : Result (Unit {0}) Fault) → Left (f ∷ fs) e c
       → ((x y : ℕ) → From e c x y → Before x y (g.element f) (g.component f) → v x y ≡ [])
       → LeastFrom s v (of (f ∷ fs)) (g.element f) (g.component f) r → LeastFrom s v (of (f ∷ fs)) e c r
   to_first f fs e c r left z l = skip s v (of (f ∷ fs)) e c (g.element f) (g.component f) r (left.ahead (field_of g f) here) clear l
@@ -127,12 +127,12 @@ module _ (s : Service) (g : Guide) (v : Values) where
   Components e c [] = (y : ℕ) → c ≤ y → v e y ≡ []
   Components e c (x ∷ xs) = (x ≡ raw_of s (v e c)) × Components e (suc c) xs
 
-  then_kept : (e c : ℕ) (t : Bool) (fs : List ℕ) (on : List ℕ → Tested) (more : List ℕ → Fault)
-      → then_fault e (then_test (cond t (broken c) (kept fs)) on) more ≡ cond t (At e c) (then_fault e (on fs) more)
+  then_kept : (e c : ℕ) (t : Bool) (fs : List ℕ) (on : List ℕ → Tested) (more : List ℕ → Result (Unit {0}) Fault)
+      → then_fault e (then_test (cond t (broken c) (kept fs)) on) more ≡ cond t (at_fault e c) (then_fault e (on fs) more)
   then_kept e c true fs on more = refl
   then_kept e c false fs on more = refl
 
-  module _ (some : Bool) (e : ℕ) (known : Known v e some) (more : List ℕ → Fault)
+  module _ (some : Bool) (e : ℕ) (known : Known v e some) (more : List ℕ → Result (Unit {0}) Fault)
       (further : (fs : List ℕ) → Left fs (suc e) 0 → LeastFrom s v (of fs) (suc e) 0 (more fs)) where
     absent_least : (fs : List ℕ) (c : ℕ) → Left fs e c → ((y : ℕ) → c ≤ y → v e y ≡ []) → LeastFrom s v (of fs) e c (then_fault e (test_absent g some e fs) more)
     unfolding test_absent
@@ -150,11 +150,11 @@ module _ (s : Service) (g : Guide) (v : Values) where
         far p (along i m) = m
 
         missing : (t : Bool) → is_missing g some f ≡ t
-            → LeastFrom s v (of (f ∷ fs)) (g.element f) (g.component f) (cond (is_broken s g some f (raw_of s [])) (At e (g.component f)) (then_fault e (test_absent g some e fs) more))
+            → LeastFrom s v (of (f ∷ fs)) (g.element f) (g.component f) (cond (is_broken s g some f (raw_of s [])) (at_fault e (g.component f)) (then_fault e (test_absent g some e fs) more))
             → LeastFrom s v (of (f ∷ fs)) (g.element f) (g.component f) (then_fault e (cond t (broken (g.component f)) (test_absent g some e fs)) more)
-        missing t h k = by t (subst (λ (u : Bool). LeastFrom s v (of (f ∷ fs)) (g.element f) (g.component f) (cond u (At e (g.component f)) (then_fault e (test_absent g some e fs) more))) (broken_none s g some f ∙ h) k)
+        missing t h k = by t (subst (λ (u : Bool). LeastFrom s v (of (f ∷ fs)) (g.element f) (g.component f) (cond u (at_fault e (g.component f)) (then_fault e (test_absent g some e fs) more))) (broken_none s g some f ∙ h) k)
           where
-            by : (u : Bool) → LeastFrom s v (of (f ∷ fs)) (g.element f) (g.component f) (cond u (At e (g.component f)) (then_fault e (test_absent g some e fs) more))
+            by : (u : Bool) → LeastFrom s v (of (f ∷ fs)) (g.element f) (g.component f) (cond u (at_fault e (g.component f)) (then_fault e (test_absent g some e fs) more))
                 → LeastFrom s v (of (f ∷ fs)) (g.element f) (g.component f) (then_fault e (cond u (broken (g.component f)) (test_absent g some e fs)) more)
             by true k = k
             by false k = k
@@ -167,7 +167,7 @@ module _ (s : Service) (g : Guide) (v : Values) where
             let m = far p (l.ahead (field_of g f) here) in
             to_first f fs e c _ l (λ x y. between x y p)
             (missing (is_missing g some f) refl
-            (subst (λ (w : ℕ). LeastFrom s v (of (f ∷ fs)) w (g.component f) (cond (is_broken s g some f (raw_of s [])) (At e (g.component f)) (then_fault e (test_absent g some e fs) more))) (sym p)
+            (subst (λ (w : ℕ). LeastFrom s v (of (f ∷ fs)) w (g.component f) (cond (is_broken s g some f (raw_of s [])) (at_fault e (g.component f)) (then_fault e (test_absent g some e fs) more))) (sym p)
             (matched f fs e (g.component f) (raw_of s []) some _ l.rises l.tested.0 p refl (ap (raw_of s) (sym (z (g.component f) m))) known
             (again (suc (g.component f)) (subst (λ (w : ℕ). Left fs w (suc (g.component f))) p (left_rest f fs e c l)) (λ y n. z y (omega arith))))))
         go false h again =
@@ -252,7 +252,7 @@ module _ (s : Service) (g : Guide) (v : Values) where
   rest_least (f ∷ fs) n e c m l z =
       let r : n ≤ g.element f = let q = reaches (l.ahead (field_of g f) here) in omega arith in
       to_first f fs e c _ l (λ x y i j. z x y (let q = reaches i in omega arith))
-      (subst (λ (t : Bool). LeastFrom s v (of (f ∷ fs)) (g.element f) (g.component f) (cond t (At (g.element f) (g.component f)) (test_rest g fs))) (broken_none s g false f)
+      (subst (λ (t : Bool). LeastFrom s v (of (f ∷ fs)) (g.element f) (g.component f) (cond t (at_fault (g.element f) (g.component f)) (test_rest g fs))) (broken_none s g false f)
       (matched f fs (g.element f) (g.component f) (raw_of s []) false _ l.rises l.tested.0 refl refl (ap (raw_of s) (sym (z (g.element f) (g.component f) r)))
       (record { has = λ h. absurd (false≢true h); lacks = λ h y. z (g.element f) y r })
       (rest_least fs n (g.element f) (suc (g.component f)) r (left_rest f fs e c l) z)))

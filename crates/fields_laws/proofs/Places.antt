@@ -3,7 +3,7 @@
 use Prim.Native.Nat.{ℕ, suc, ◌≤◌, ◌<◌}
 use native.Mathlib.Omega.{arith}
 use native.Mathlib.Decide.{dec_lt}
-use mathlib.Core.Path.{◌≡◌, refl, sym, subst}
+use mathlib.Core.Path.{◌≡◌, refl, sym, ap₂, subst}
 use mathlib.Core.List.{List, [], ◌∷◌}
 use mathlib.Core.Logic.{dite}
 use Rattle.guide.specs.meaning.View.{Field}
@@ -12,8 +12,9 @@ use Rattle.fields.specs.meaning.Fields.{Values, In, Breaks, Faulty, Before, Leas
 use Rattle.fields.specs.meaning.Fields.In.{here, there}
 use Rattle.fields.specs.meaning.Fields.Faulty.{named, unnamed}
 use Rattle.fields.specs.meaning.Fields.Before.{sooner, beside}
+use Rattle.std.specs.Prelude.{Result, Ok, Err}
+use Rattle.fields.specs.method.Testing.{at_fault}
 use Rattle.fields.specs.declared.fault.Fault.{Fault}
-use Rattle.fields.specs.declared.fault.Fault.TheVariants.{At, Clean}
 
 -- x, y stands at e, c or after it
 pub data From (e c x y : ℕ) : Type 0 where
@@ -109,35 +110,35 @@ module _ (s : Service) (v : Values) where
     pub faulty : Faulty s fs v x y
     pub clear : (a b : ℕ) → From e c a b → Before a b x y → Faulty s fs v a b → ⊥
 
-  unfoldable pub LeastFrom : List Field → ℕ → ℕ → Fault → Type 0
-  LeastFrom fs e c (At x y) = LeastAt fs e c x y
-  LeastFrom fs e c Clean = (a b : ℕ) → From e c a b → Faulty s fs v a b → ⊥
+  unfoldable pub LeastFrom : List Field → ℕ → ℕ → Result (Unit {0}) Fault → Type 0
+  LeastFrom fs e c (Err x) = LeastAt fs e c x.element x.component
+  LeastFrom fs e c (Ok _) = (a b : ℕ) → From e c a b → Faulty s fs v a b → ⊥
 
   -- over places without a fault
-  pub skip : (fs : List Field) (e c x y : ℕ) (r : Fault) → From e c x y → ((a b : ℕ) → From e c a b → Before a b x y → Faulty s fs v a b → ⊥)
+  pub skip : (fs : List Field) (e c x y : ℕ) (r : Result (Unit {0}) Fault) → From e c x y → ((a b : ℕ) → From e c a b → Before a b x y → Faulty s fs v a b → ⊥)
       → LeastFrom fs x y r → LeastFrom fs e c r
   unfolding LeastFrom
-  skip fs e c x y (At p q) h n l =
-      record { reach = from_trans e c x y p q h l.reach; faulty = l.faulty; clear = λ a b i j k. go a b i j k (side x y a b) }
+  skip fs e c x y (Err z) h n l =
+      record { reach = from_trans e c x y z.element z.component h l.reach; faulty = l.faulty; clear = λ a b i j k. go a b i j k (side x y a b) }
     where
-      go : (a b : ℕ) → From e c a b → Before a b p q → Faulty s fs v a b → Side x y a b → ⊥
+      go : (a b : ℕ) → From e c a b → Before a b z.element z.component → Faulty s fs v a b → Side x y a b → ⊥
       go a b i j k (ahead m) = n a b i m k
       go a b i j k (on m) = l.clear a b m j k
-  skip fs e c x y Clean h n l = λ a b i k. go a b i k (side x y a b)
+  skip fs e c x y (Ok _) h n l = λ a b i k. go a b i k (side x y a b)
     where
       go : (a b : ℕ) → From e c a b → Faulty s fs v a b → Side x y a b → ⊥
       go a b i k (ahead m) = n a b i m k
       go a b i k (on m) = l a b m k
 
-  pub clean_from : (fs : List Field) (e c : ℕ) → ((a b : ℕ) → From e c a b → Faulty s fs v a b → ⊥) → LeastFrom fs e c Clean
+  pub clean_from : (fs : List Field) (e c : ℕ) → ((a b : ℕ) → From e c a b → Faulty s fs v a b → ⊥) → LeastFrom fs e c (Ok tt)
   unfolding LeastFrom
   clean_from fs e c h = h
 
-  pub faulty_here : (fs : List Field) (e c : ℕ) → Faulty s fs v e c → LeastFrom fs e c (At e c)
+  pub faulty_here : (fs : List Field) (e c : ℕ) → Faulty s fs v e c → LeastFrom fs e c (at_fault e c)
   unfolding LeastFrom
   faulty_here fs e c f = record { reach = along refl (omega arith); faulty = f; clear = λ a b i j k. not_both e c a b i j }
 
-  pub clear_here : (fs : List Field) (e c : ℕ) (r : Fault) → (Faulty s fs v e c → ⊥) → LeastFrom fs e (suc c) r → LeastFrom fs e c r
+  pub clear_here : (fs : List Field) (e c : ℕ) (r : Result (Unit {0}) Fault) → (Faulty s fs v e c → ⊥) → LeastFrom fs e (suc c) r → LeastFrom fs e c r
   clear_here fs e c r n l = skip fs e c e (suc c) r (along refl (omega arith)) clear l
     where
       clear : (a b : ℕ) → From e c a b → Before a b e (suc c) → Faulty s fs v a b → ⊥
@@ -162,18 +163,18 @@ module _ (s : Service) (v : Values) where
       go g here p q = n p q
       go g (there j) p q = h g j p q
 
-  pub passed : (f : Field) (fs : List Field) (e c : ℕ) (r : Fault) → Before f.element f.component e c → LeastFrom fs e c r → LeastFrom (f ∷ fs) e c r
+  pub passed : (f : Field) (fs : List Field) (e c : ℕ) (r : Result (Unit {0}) Fault) → Before f.element f.component e c → LeastFrom fs e c r → LeastFrom (f ∷ fs) e c r
   unfolding LeastFrom
-  passed f fs e c (At x y) h l =
+  passed f fs e c (Err x) h l =
       record {
         reach = l.reach;
-        faulty = more f fs x y (other x y l.reach) l.faulty;
+        faulty = more f fs x.element x.component (other x.element x.component l.reach) l.faulty;
         clear = λ a b i j k. l.clear a b i j (less f fs a b (other a b i) k);
       }
     where
       other : (a b : ℕ) → From e c a b → f.element ≡ a → f.component ≡ b → ⊥
       other a b i p q = before_not _ _ _ _ (before_trans _ _ _ _ _ _ h i) (sym p) (sym q)
-  passed f fs e c Clean h l = λ a b i k. l a b i (less f fs a b (other a b i) k)
+  passed f fs e c (Ok _) h l = λ a b i k. l a b i (less f fs a b (other a b i) k)
     where
       other : (a b : ℕ) → From e c a b → f.element ≡ a → f.component ≡ b → ⊥
       other a b i p q = before_not _ _ _ _ (before_trans _ _ _ _ _ _ h i) (sym p) (sym q)
@@ -193,13 +194,13 @@ module _ (s : Service) (v : Values) where
   first_kept f fs r n (unnamed h x) = h f here refl refl
 
   -- from the first place on, the least of all
-  pub least_of_all : (fs : List Field) (r : Fault) → LeastFrom fs 0 0 r → LeastFault s fs v r
+  pub least_of_all : (fs : List Field) (r : Result (Unit {0}) Fault) → LeastFrom fs 0 0 r → LeastFault s fs v r
   unfolding LeastFrom
-  least_of_all fs (At x y) l = (l.faulty, λ a b j k. l.clear a b (from_zero a b) j k)
+  least_of_all fs (Err x) l = (l.faulty, λ a b j k. l.clear a b (from_zero a b) j k)
     where
       from_zero : (a b : ℕ) → From 0 0 a b
       from_zero a b = dite (dec_lt 0 a) later (λ n. along (omega arith) (omega arith))
-  least_of_all fs Clean l = λ a b k. l a b (from_zero a b) k
+  least_of_all fs (Ok _) l = λ a b k. l a b (from_zero a b) k
     where
       from_zero : (a b : ℕ) → From 0 0 a b
       from_zero a b = dite (dec_lt 0 a) later (λ n. along (omega arith) (omega arith))
@@ -210,10 +211,10 @@ module _ (s : Service) (v : Values) where
       let p : e ≡ a = dite (dec_lt e a) (λ h. absurd (n (sooner h))) (λ h. dite (dec_lt a e) (λ k. absurd (m (sooner k))) (λ k. omega arith)) in
       (p, dite (dec_lt c b) (λ h. absurd (n (beside p h))) (λ h. dite (dec_lt b c) (λ k. absurd (m (beside (sym p) k))) (λ k. omega arith)))
 
-  pub one_fault : (fs : List Field) (x y : Fault) → LeastFault s fs v x → LeastFault s fs v y → x ≡ y
-  one_fault fs (At e c) (At a b) l m =
-      let p = same_place e c a b (λ h. m.1 e c h l.0) (λ h. l.1 a b h m.0) in
-      cc (p.0, p.1)
-  one_fault fs (At e c) Clean l m = absurd (m e c l.0)
-  one_fault fs Clean (At a b) l m = absurd (l a b m.0)
-  one_fault fs Clean Clean l m = refl
+  pub one_fault : (fs : List Field) (x y : Result (Unit {0}) Fault) → LeastFault s fs v x → LeastFault s fs v y → x ≡ y
+  one_fault fs (Err x) (Err y) l m =
+      let p = same_place x.element x.component y.element y.component (λ h. m.1 x.element x.component h l.0) (λ h. l.1 y.element y.component h m.0) in
+      ap₂ at_fault p.0 p.1
+  one_fault fs (Err x) (Ok _) l m = absurd (m x.element x.component l.0)
+  one_fault fs (Ok _) (Err y) l m = absurd (l y.element y.component m.0)
+  one_fault fs (Ok _) (Ok _) l m = refl

@@ -1,28 +1,16 @@
--- The test of a decimal: the first byte, and the steps of its loop. What it says of a value is the law decimal of framing_laws.
+-- The test of a decimal: the steps of its loop. What it says of a value is the law decimal of framing_laws.
 use Prim.Native.Nat.{ℕ, ◌+◌, ◌*◌, ◌-◌, ◌≤◌, ◌<◌}
 use native.Mathlib.Omega.{arith}
 use native.Mathlib.Numerals.{add-one}
 use mathlib.Core.Path.{◌≡◌, refl, sym, ◌∙◌}
-use mathlib.Core.List.{List, [], ◌∷◌}
-use mathlib.Core.Bool.{Bool, true, false, true≢false, not, ◌&&◌}
+use mathlib.Core.List.{List}
+use mathlib.Core.Bool.{Bool, true, false, true≢false, ◌&&◌}
 use lib.Dec.{eqb, leb}
 use lib.ListN.{length, get_or, drop, drop_of_length-le}
 use lib.Seq.{drop-cons}
 use borrow.Author.Tests.{le-leb, lt-leb, leb-true}
 use Rattle.reading.specs.meaning.Digit.{is_digit}
-use Rattle.framing.specs.method.Decimal.{is_decimal_from, leads}
-
--- ---- the first byte
-
-pub leads_nothing : (v : List ℕ) → length v ≡ 0 → false ≡ leads v
-leads_nothing [] e = refl
-leads_nothing (b ∷ bs) e = absurd (omega arith)
-
-pub leads_first : (v : List ℕ) → (length v ≡ 0 → ⊥) → not (eqb (get_or v 0 0) 0x30) ≡ leads v
-leads_first [] h = absurd (h refl)
-leads_first (b ∷ bs) h = refl
-
--- ---- the loop
+use Rattle.framing.specs.method.Decimal.{is_decimal_from}
 
 -- what is left to be tested decides as the whole does
 pub record Making (n : ℕ) (v : List ℕ) (made at : ℕ) : Type 0 where

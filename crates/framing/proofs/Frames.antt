@@ -3,141 +3,114 @@ use Prim.Native.Nat.{ℕ, suc, ◌+◌, ◌-◌, ◌≤◌, ◌<◌}
 use native.Mathlib.Omega.{arith}
 use native.Mathlib.Numerals.{add-one}
 use mathlib.Core.Path.{◌≡◌, refl, sym, ap, ap₂, ◌∙◌}
-use mathlib.Core.List.{List, ◌∷◌}
-use mathlib.Core.Bool.{Bool, true, false, cond, not, ◌||◌}
-use lib.Dec.{eqb}
+use mathlib.Core.List.{List, [], ◌∷◌}
+use mathlib.Core.Bool.{Bool, true, false, cond, ◌&&◌}
+use lib.Dec.{eqb, ltb}
 use lib.ListN.{length}
-use borrow.Author.Tests.{eq-eqb, ne_eqb}
+use borrow.Author.Tests.{eq-eqb, ne_eqb, eqb-true, eqb-false}
+use Rattle.std.specs.Prelude.{Option, Some, None, Ok, Err}
+use Rattle.std.specs.Option.{option_or}
+use Rattle.std.specs.Bool.{then_some}
 use Rattle.reading.specs.meaning.Component.{span}
-use Rattle.reading.specs.method.Machine.{segment_end, found_by, bad_from, scanned}
+use Rattle.reading.specs.method.Machine.{stepped, is_dead, is_start, ended, pick, scan_on, segment_end, found_by, bad_from, scanned}
 use Rattle.reading.specs.method.Tag.{tag_at}
+use Rattle.reading.specs.declared.machine.State.{State}
 use Rattle.reading.specs.declared.service.Service.{Service}
-use Rattle.reading.specs.method.Outcome.{Outcome}
-use Rattle.reading.specs.method.Outcome as outcome
-use Rattle.reading.specs.declared.cursor.End.TheVariants.{At, Nowhere}
-use Rattle.reading.proofs.Scanning.{Scanning, scanning_begin, scanning_on, scanning_bad, scanning_empty, scanning_end}
+use Rattle.reading.specs.method.Outcome.{Segments, BadAt}
 use Rattle.reading.specs.method.Starts.{starts_from}
-use Rattle.reading.specs.meaning.Tag.{tag_number, UNH, UNT}
+use Rattle.reading.proofs.Ending.{end_within}
+use Rattle.reading.proofs.Scanning.{bad_segments, Scanning, scanning_begin, scanning_on, scanning_bad, scanning_empty, scanning_end}
 use Rattle.reading.proofs.Starts.{starts_found, starts_end}
-use Rattle.framing.specs.method.Stages.{is_misplaced, frame_from, frame_of}
-use Rattle.framing.specs.method.Survey.{survey_by, surveyed, misplaced_by, frame_by}
-use Rattle.framing.specs.declared.survey.Frame.{Frame}
-use Rattle.framing.specs.declared.survey.Frame.TheVariants.{Misplaced}
-use Rattle.framing.specs.declared.survey.Survey.TheVariants.{BadAt, Segments}
-
--- the two tests of one segment
-pub misplaced_by_unh : (n k tag : ℕ) (v : Bool) → v ≡ cond (eqb k 1) (not (eqb tag (tag_number UNH))) (eqb tag (tag_number UNH)) → v ≡ true → true ≡ is_misplaced n k tag
-misplaced_by_unh n k tag v e h = ap (λ (x : Bool). x || cond (eqb k n) (not (eqb tag (tag_number UNT))) (eqb tag (tag_number UNT))) (sym h ∙ e)
-
-pub misplaced_by_unt : (n k tag : ℕ) (v w : Bool) → v ≡ cond (eqb k 1) (not (eqb tag (tag_number UNH))) (eqb tag (tag_number UNH)) → v ≡ false
-    → w ≡ cond (eqb k n) (not (eqb tag (tag_number UNT))) (eqb tag (tag_number UNT)) → w ≡ is_misplaced n k tag
-misplaced_by_unt n k tag v w e h f = f ∙ ap (λ (x : Bool). x || cond (eqb k n) (not (eqb tag (tag_number UNT))) (eqb tag (tag_number UNT))) (sym h ∙ e)
+use Rattle.framing.specs.method.Stages.{Frame, is_misplaced_at, is_misplaced, frame_from, frame_of}
+use Rattle.framing.specs.method.Survey.{survey_by, surveyed, unless_misplaced}
+use Rattle.framing.specs.declared.refusal.Refusal.TheVariants.{BadByte, Misplaced}
 
 -- ---- the first misplaced segment
 
-abbrev framed_by : ℕ → Frame → Frame
-framed_by x rest = cond (not (eqb x 0)) (Misplaced x) rest
+-- that of the segments before, or else this one
+one_more : (before : Option ℕ) (is_here : Bool) (k : ℕ) (rest : Frame)
+    → unless_misplaced (option_or before (then_some is_here k)) rest ≡ unless_misplaced before (cond is_here (Err (Misplaced k)) rest)
+one_more (Some j) is_here k rest = refl
+one_more None true k rest = refl
+one_more None false k rest = refl
 
-framed_none : (x : ℕ) (rest : Frame) → eqb x 0 ≡ true → framed_by x rest ≡ rest
-framed_none x rest e = ap (λ (z : Bool). cond (not z) (Misplaced x) rest) e
+-- ---- the pass: n segments have ended before the offset `at`, the last of which starts at `last`
 
-framed_some : (x : ℕ) (rest : Frame) → eqb x 0 ≡ false → framed_by x rest ≡ Misplaced x
-framed_some x rest e = ap (λ (z : Bool). cond (not z) (Misplaced x) rest) e
-
-one_more_lem : (x k : ℕ) (y : Bool) (rest : Frame) → framed_by x (cond y (Misplaced (suc k)) rest) ≡ framed_by (cond (not (eqb x 0)) x (cond y (suc k) 0)) rest
-one_more_lem x k y rest = go (eqb x 0) refl y
-  where
-    go : (z : Bool) → eqb x 0 ≡ z → (v : Bool) → framed_by x (cond v (Misplaced (suc k)) rest) ≡ framed_by (cond (not z) x (cond v (suc k) 0)) rest
-    go true e true = framed_none x (Misplaced (suc k)) e ∙ sym (framed_some (suc k) rest (ne_eqb (suc k) 0 (λ h. omega (arith, h))))
-    go true e false = framed_none x rest e ∙ sym (framed_none 0 rest (eq-eqb 0 0 refl))
-    go false e v = framed_some x (cond v (Misplaced (suc k)) rest) e ∙ sym (framed_some x rest e)
-
-nought : (z : Bool) → ◌≡◌ {A = ℕ} (cond z 0 0) 0
-nought true = refl
-nought false = refl
-
--- of a segment that is not the last one, which one is does not matter
-not_last : (m n tag : ℕ) → n < m → is_misplaced m n tag ≡ is_misplaced (n + 1) n tag
-not_last m n tag h =
-    ap (λ (x : Bool). cond (eqb n 1) (not (eqb tag (tag_number UNH))) (eqb tag (tag_number UNH)) || cond x (not (eqb tag (tag_number UNT))) (eqb tag (tag_number UNT)))
-    (ne_eqb n m (λ e. omega (arith, e)) ∙ sym (ne_eqb n (n + 1) (λ e. omega (arith, e))))
-
--- ---- the pass: n segments have ended before the offset `at`, the last of which starts at `last` and is not tested yet
-
--- how many there will be is not known, so the frame is what it will be for any number
-pub record Surveying (s : Service) (bs : List ℕ) (n misplaced last at : ℕ) : Type 0 where
+-- how many there will be is not known, but that there are none if nothing is left; so the frame is what it will be for any such number
+pub record Surveying (s : Service) (bs : List ℕ) (n : ℕ) (misplaced : Option ℕ) (last at : ℕ) : Type 0 where
   pub scanning : Scanning s bs n at
-  pub framed : (m : ℕ) → n ≤ m → framed_by (misplaced_by misplaced m n (tag_at bs last)) (frame_from bs m n last (starts_from s bs (m - n) at)) ≡ frame_of s bs m
+  pub begun : n ≡ 0 → at ≡ 0
+  pub framed : (m : ℕ) → n ≤ m → (at < length bs → n < m) → (length bs ≤ at → m ≡ n)
+      → unless_misplaced misplaced (frame_from bs m n last (starts_from s bs (m - n) at)) ≡ frame_of s bs m
 
 module _ (s : Service) (bs : List ℕ) where
-  pub surveying_begin : Surveying s bs 0 0 0 0
-  surveying_begin =
-      record {
-        scanning = scanning_begin s bs;
-        framed = λ m h.
-            let whole : m - 0 ≡ m = omega arith in
-            ap (λ (x : ℕ). framed_by x (frame_from bs m 0 0 (starts_from s bs (m - 0) 0))) (nought (is_misplaced m 0 (tag_at bs 0)))
-            ∙ ap (λ (k : ℕ). frame_from bs m 0 0 (starts_from s bs k 0)) whole;
-      }
+  pub surveying_begin : Surveying s bs 0 None 0 0
+  surveying_begin = record {
+    scanning = scanning_begin s bs;
+    begun = λ e. e;
+    framed = λ m h i j. let whole : m - 0 ≡ m = omega arith in ap (λ (k : ℕ). frame_from bs m 0 0 (starts_from s bs k 0)) whole;
+  }
 
-  module _ (n misplaced last at : ℕ) (i : Surveying s bs n misplaced last at) where
-    pub surveying_on : (end tag w : ℕ) → segment_end s bs at ≡ At end → tag ≡ tag_at bs last → w ≡ misplaced_by misplaced (n + 1) n tag
-        → Surveying s bs (n + 1) w at (end + 1)
+  module _ (n : ℕ) (misplaced : Option ℕ) (last at : ℕ) (i : Surveying s bs n misplaced last at) where
+    pub surveying_on : (end : ℕ) (is_here : Bool) → at < length bs → segment_end s bs at ≡ Some end
+        → is_here ≡ is_misplaced_at (eqb (n + 1) 1) (eqb (end + 1) (length bs)) (tag_at bs at)
+        → Surveying s bs (n + 1) (option_or misplaced (then_some is_here (n + 1))) at (end + 1)
     unfolding frame_from
-    surveying_on end tag w e t f = record { scanning = scanning_on s bs n at end i.scanning e; framed = go }
+    surveying_on end is_here less e f = record { scanning = scanning_on s bs n at end i.scanning e; begun = λ z. absurd (omega arith); framed = go }
       where
-        go : (m : ℕ) → n + 1 ≤ m → framed_by (misplaced_by w m (n + 1) (tag_at bs at)) (frame_from bs m (n + 1) at (starts_from s bs (m - (n + 1)) (end + 1))) ≡ frame_of s bs m
-        go m h =
-            let known : w ≡ misplaced_by misplaced m n (tag_at bs last) =
-            f ∙ ap (λ (x : ℕ). misplaced_by misplaced (n + 1) n x) t
-            ∙ ap (λ (x : Bool). cond (not (eqb misplaced 0)) misplaced (cond x n 0)) (sym (not_last m n (tag_at bs last) (omega arith))) in
+        -- the last one is the one behind which nothing is left
+        is_last : (m : ℕ) → (end + 1 < length bs → n + 1 < m) → (length bs ≤ end + 1 → m ≡ n + 1) → eqb (end + 1) (length bs) ≡ eqb (suc n) m
+        is_last m j k = by (eqb (end + 1) (length bs)) refl
+          where
+            by : (x : Bool) → eqb (end + 1) (length bs) ≡ x → x ≡ eqb (suc n) m
+            by true z = let here = eqb-true (end + 1) (length bs) z in sym (eq-eqb (suc n) m (omega arith))
+            by false z =
+                let inside = (end_within s bs at end e).inside in
+                let more = eqb-false (end + 1) (length bs) z in
+                sym (ne_eqb (suc n) m (λ same. omega arith))
+
+        go : (m : ℕ) → n + 1 ≤ m → (end + 1 < length bs → n + 1 < m) → (length bs ≤ end + 1 → m ≡ n + 1)
+            → unless_misplaced (option_or misplaced (then_some is_here (n + 1))) (frame_from bs m (n + 1) at (starts_from s bs (m - (n + 1)) (end + 1))) ≡ frame_of s bs m
+        go m h j k =
             let starts : starts_from s bs (m - n) at ≡ at ∷ starts_from s bs (m - (n + 1)) (end + 1) =
             starts_found s bs n m at (span at end) (record { at = end + 1 }) (omega arith) (sym (ap (found_by at) e)) in
-            ap (λ (k : ℕ). framed_by (misplaced_by w m k (tag_at bs at)) (frame_from bs m k at (starts_from s bs (m - (n + 1)) (end + 1)))) (add-one n)
-            ∙ sym (one_more_lem w n (is_misplaced m (suc n) (tag_at bs at)) (frame_from bs m (suc n) at (starts_from s bs (m - (n + 1)) (end + 1))))
-            ∙ ap₂ framed_by known (sym (ap (frame_from bs m n last) starts)) ∙ i.framed m (omega arith)
+            let here : is_here ≡ is_misplaced m (suc n) (tag_at bs at) =
+            f ∙ ap₂ (λ (x : ℕ) (last : Bool). is_misplaced_at (eqb x 1) last (tag_at bs at)) (add-one n) (is_last m j k) in
+            one_more misplaced is_here (n + 1) (frame_from bs m (n + 1) at (starts_from s bs (m - (n + 1)) (end + 1)))
+            ∙ ap₂ (λ (x : ℕ) (b : Bool). unless_misplaced misplaced (cond b (Err (Misplaced x)) (frame_from bs m x at (starts_from s bs (m - (n + 1)) (end + 1))))) (add-one n) here
+            ∙ ap (unless_misplaced misplaced) (sym (ap (frame_from bs m n last) starts)) ∙ i.framed m (omega arith) (omega arith) (omega arith)
 
-    pub surveying_bad : (k : ℕ) → at < length bs → segment_end s bs at ≡ Nowhere → k ≡ bad_from s bs at → BadAt k ≡ surveyed s bs
-    surveying_bad k h e f = ap BadAt f ∙ ap (survey_by s bs) (scanning_bad s bs n at h i.scanning e)
+    pub surveying_bad : (k : ℕ) → at < length bs → segment_end s bs at ≡ None → k ≡ bad_from s bs at → Err (BadByte k) ≡ surveyed s bs
+    surveying_bad k h e f = ap (λ (x : ℕ). Err (BadByte x)) f ∙ ap (survey_by s bs) (scanning_bad s bs n at h i.scanning e)
 
     module _ (h : length bs ≤ at) where
-      pub surveying_empty : n ≡ 0 → BadAt at ≡ surveyed s bs
-      surveying_empty z = ap (survey_by s bs) (scanning_empty s bs n at h z i.scanning)
+      pub surveying_empty : n ≡ 0 → Err (BadByte 0) ≡ surveyed s bs
+      surveying_empty z = ap (λ (x : ℕ). Err (BadByte x)) (sym (i.begun z)) ∙ ap (survey_by s bs) (scanning_empty s bs n at h z i.scanning)
 
-      pub surveying_end : (n ≡ 0 → ⊥) → (tag w : ℕ) (f : Frame) → tag ≡ tag_at bs last → w ≡ misplaced_by misplaced n n tag → f ≡ frame_by w last
-          → Segments n f ≡ surveyed s bs
+      pub surveying_end : (n ≡ 0 → ⊥) → (f : Frame) → f ≡ unless_misplaced misplaced (Ok last) → Ok (record { segments = n; frame = f }) ≡ surveyed s bs
       unfolding frame_from
-      surveying_end z tag w f t e g =
-          ap (Segments n)
-          (g ∙ ap (λ (x : ℕ). frame_by x last) (e ∙ ap (misplaced_by misplaced n n) t)
-          ∙ ap (framed_by (misplaced_by misplaced n n (tag_at bs last))) (sym (ap (frame_from bs n n last) (starts_end s bs n n at (omega arith)))) ∙ i.framed n (omega arith))
+      surveying_end z f e =
+          ap (λ (x : Frame). Ok (record { segments = n; frame = x }))
+          (e ∙ ap (unless_misplaced misplaced) (sym (ap (frame_from bs n n last) (starts_end s bs n n at (omega arith)))) ∙ i.framed n (omega arith) (omega arith) (omega arith))
           ∙ ap (survey_by s bs) (scanning_end s bs n at h z i.scanning)
 
--- ---- what the pass finds is what the scan and the frame are
+-- ---- number 4's place
 
-not_good : {k n : ℕ} {f : Frame} → BadAt k ≡ Segments n f → ⊥
-not_good e = let z : ◌≡◌ {A = ℕ} 0 1 = cc in omega arith
+-- it lies within the message, or at its end
+bad_in : (s : Service) (p : State) (n at : ℕ) (bs : List ℕ) (k : ℕ) → scan_on s p n at bs ≡ BadAt k → k ≤ at + length bs
+unfolding scan_on
+bad_in s p n at [] k e = go (is_start p) (ltb 0 n) e
+  where
+    go : (x y : Bool) → pick (x && y) (Segments n) (BadAt at) ≡ BadAt k → k ≤ at + 0
+    go true true h = absurd (bad_segments (sym h))
+    go true false h = let i : at ≡ k = cc h in omega arith
+    go false y h = let i : at ≡ k = cc h in omega arith
+bad_in s p n at (b ∷ bs) k e = go (is_dead (stepped s p b)) (bad_in s (stepped s p b) (ended (stepped s p b) n) (at + 1) bs k) e
+  where
+    go : (x : Bool) → (scan_on s (stepped s p b) (ended (stepped s p b) n) (at + 1) bs ≡ BadAt k → k ≤ at + 1 + length bs)
+        → pick x (BadAt at) (scan_on s (stepped s p b) (ended (stepped s p b) n) (at + 1) bs) ≡ BadAt k → k ≤ at + length (b ∷ bs)
+    go true ih h = let i : at ≡ k = cc h in omega arith
+    go false ih h = let i = ih h in omega arith
 
-bad_same : {j k : ℕ} → BadAt j ≡ BadAt k → j ≡ k
-bad_same e = cc
-
-count_same : {m n : ℕ} {f g : Frame} → Segments m f ≡ Segments n g → m ≡ n
-count_same e = cc
-
-frame_same : {m n : ℕ} {f g : Frame} → Segments m f ≡ Segments n g → f ≡ g
-frame_same e = cc
-
-module _ (s : Service) (bs : List ℕ) where
-  pub survey_bad : (k : ℕ) → BadAt k ≡ surveyed s bs → outcome.BadAt k ≡ scanned s bs
-  survey_bad k e = go (scanned s bs) e
-    where
-      go : (o : Outcome) → BadAt k ≡ survey_by s bs o → outcome.BadAt k ≡ o
-      go (outcome.BadAt j) h = ap outcome.BadAt (bad_same h)
-      go (outcome.Segments n) h = absurd (not_good h)
-
-  pub survey_good : (n : ℕ) (f : Frame) → Segments n f ≡ surveyed s bs → (outcome.Segments n ≡ scanned s bs) × (f ≡ frame_of s bs n)
-  survey_good n f e = go (scanned s bs) e
-    where
-      go : (o : Outcome) → Segments n f ≡ survey_by s bs o → (outcome.Segments n ≡ o) × (f ≡ frame_of s bs n)
-      go (outcome.BadAt j) h = absurd (not_good (sym h))
-      go (outcome.Segments m) h = (ap outcome.Segments (count_same h), frame_same h ∙ ap (frame_of s bs) (sym (count_same h)))
+pub bad_within : (s : Service) (bs : List ℕ) (k : ℕ) → scanned s bs ≡ BadAt k → k ≤ length bs
+bad_within s bs k e = let h = bad_in s _ 0 0 bs k e in omega arith

@@ -7,6 +7,7 @@ use mathlib.Core.Bool.{Bool, true, false, cond, ◌&&◌}
 use mathlib.Core.Logic.{◌↔◌}
 use lib.Dec.{eqb, leb}
 use borrow.Author.Tests.{eqb-true, le-leb, leb-true}
+use Rattle.std.specs.Prelude.{Ok, Err}
 use Rattle.framing.specs.meaning.Limits.{most_segments}
 use Rattle.reading.specs.meaning.Component.{same_component}
 use Rattle.reading.specs.method.Outcome.{Outcome, Segments, BadAt}
@@ -15,10 +16,11 @@ use Rattle.reading.specs.declared.service.Service.{Service}
 use Rattle.reading.proofs.Booleans.{halves}
 use Rattle.framing.specs.meaning.Table.{HasRoom}
 use Rattle.framing.specs.meaning.Record.{answer}
-use Rattle.framing.specs.method.Stages.{or_else, is_sized, has_room, frame_of, component_at, closing_stage, frame_stage, scan_stage, message_stage}
+use Rattle.framing.specs.method.Refusals.{verdict_of}
+use Rattle.framing.specs.method.Stages.{or_else, is_sized, has_room, Frame, frame_of, component_at, closing_stage, frame_stage, scan_stage, message_stage}
 use Rattle.framing.specs.method.Decimal.{is_decimal}
-use Rattle.framing.specs.declared.survey.Frame.{Frame}
-use Rattle.framing.specs.declared.survey.Frame.TheVariants as frame
+use Rattle.framing.specs.declared.refusal.Refusal.{Refusal}
+use Rattle.framing.specs.declared.refusal.Refusal.TheVariants.{Size, BadByte, TooManySegments, NoRoom, Misplaced, WrongCount, WrongReference}
 use Rattle.framing.specs.declared.message.Room.{Room}
 use Rattle.framing.specs.declared.verdict.Verdict.{Verdict}
 
@@ -46,6 +48,15 @@ passed false x y n e = absurd (n e)
 pub fault : {n : ℕ} → 0 < n → n ≡ 0 → ⊥
 fault h e = omega arith
 
+pub refused : (refusal : Refusal) → (verdict_of refusal).number ≡ 0 → ⊥
+refused Size e = fault {n = 3} (omega arith) e
+refused (BadByte k) e = fault {n = 4} (omega arith) e
+refused TooManySegments e = fault {n = 5} (omega arith) e
+refused (NoRoom n) e = fault {n = 6} (omega arith) e
+refused (Misplaced k) e = fault {n = 7} (omega arith) e
+refused (WrongCount n) e = fault {n = 8} (omega arith) e
+refused (WrongReference n) e = fault {n = 9} (omega arith) e
+
 pub first_clear : (v w : Verdict) → (or_else v w).number ≡ 0 → v.number ≡ 0
 first_clear v w e = go (eqb v.number 0) refl e
   where
@@ -65,7 +76,7 @@ pub record ClearMessage (s : Service) (bs : List ℕ) (room : Room) (v : Verdict
   pub few : leb segments most_segments ≡ true
   pub roomy : has_room room segments ≡ true
   pub last : ℕ
-  pub frame : frame_of s bs segments ≡ frame.Closes last
+  pub frame : frame_of s bs segments ≡ Ok last
   pub same : v ≡ answer 0 segments
 
 module _ (s : Service) (bs : List ℕ) where
@@ -75,9 +86,9 @@ module _ (s : Service) (bs : List ℕ) where
       (cond (same_component (component_at s bs last 2 1) (component_at s bs 0 1 1)) (answer 0 n) (answer 9 n)) (fault (omega arith)) e in
       a ∙ passed (same_component (component_at s bs last 2 1) (component_at s bs 0 1 1)) (answer 9 n) (answer 0 n) (fault (omega arith)) (sym (ap (λ (v : Verdict). v.number) a) ∙ e)
 
-  frame_same : (n : ℕ) (f : Frame) → (frame_stage s bs n f).number ≡ 0 → (last : ℕ) × (f ≡ frame.Closes last) × (frame_stage s bs n f ≡ answer 0 n)
-  frame_same n (frame.Misplaced k) e = absurd (fault {n = 7} (omega arith) e)
-  frame_same n (frame.Closes last) e = (last, refl, closing_same n last e)
+  frame_same : (n : ℕ) (f : Frame) → (frame_stage s bs n f).number ≡ 0 → (last : ℕ) × (f ≡ Ok last) × (frame_stage s bs n f ≡ answer 0 n)
+  frame_same n (Err refusal) e = absurd (refused refusal e)
+  frame_same n (Ok last) e = (last, refl, closing_same n last e)
 
   pub clear_message : (room : Room) → (message_stage s bs room).number ≡ 0 → ClearMessage s bs room (message_stage s bs room)
   unfolding message_stage
@@ -110,6 +121,15 @@ module _ (s : Service) (bs : List ℕ) where
 abbrev pub Low : Verdict → Type 0
 Low v = v.number ≤ 11
 
+low_refusal : (refusal : Refusal) → Low (verdict_of refusal)
+low_refusal Size = omega arith
+low_refusal (BadByte k) = omega arith
+low_refusal TooManySegments = omega arith
+low_refusal (NoRoom n) = omega arith
+low_refusal (Misplaced k) = omega arith
+low_refusal (WrongCount n) = omega arith
+low_refusal (WrongReference n) = omega arith
+
 pub low_cond : (b : Bool) (x y : Verdict) → Low x → Low y → Low (cond b y x)
 low_cond true x y h k = k
 low_cond false x y h k = h
@@ -124,8 +144,8 @@ module _ (s : Service) (bs : List ℕ) where
       (low_cond (same_component (component_at s bs last 2 1) (component_at s bs 0 1 1)) (answer 9 n) (answer 0 n) (omega arith) (omega arith))
 
   low_frame : (n : ℕ) (f : Frame) → Low (frame_stage s bs n f)
-  low_frame n (frame.Misplaced k) = omega arith
-  low_frame n (frame.Closes last) = low_closing n last
+  low_frame n (Err refusal) = low_refusal refusal
+  low_frame n (Ok last) = low_closing n last
 
   low_scan : (room : Room) (o : Outcome) → Low (scan_stage s bs room o)
   low_scan room (BadAt k) = omega arith

@@ -2,3 +2,4 @@
 pub mod Decimal
 pub mod Stages
 pub mod Survey
+pub mod Refusals

@@ -1,10 +1,10 @@
-// The answer record: one struct by value, of which the stages change single fields; and how it goes into a lent table.
+// The answer record: one struct by value; and how it goes into a lent table.
 ghost use Rattle.std.specs.Prelude.{◌≡◌};
 ghost use Rattle.slices.specs.meaning.Lent.{as_many_as_fit};
 ghost use Rattle.framing.specs.meaning.Record.{answer, numbers_of};
 
 // Where: a segment's number (an offset for number 4), the guide's line, and the element and component in the segment.
-#[derive(Clone, Copy)]
+#[derive(Clone, Copy, PartialEq, Eq, Debug, Default)]
 pub struct Place {
     pub at: u32,
     pub line: u32,
@@ -13,7 +13,7 @@ pub struct Place {
 }
 
 // 01's six numbers. Entries that a number does not name are 0.
-#[derive(Clone, Copy)]
+#[derive(Clone, Copy, PartialEq, Eq, Debug, Default)]
 pub struct Verdict {
     pub number: u32,
     pub place: Place,
@@ -27,15 +27,32 @@ impl Verdict {
     {
         let place = Place {
             at,
-            line: 0,
-            element: 0,
-            component: 0,
+            ..Place::default()
         };
         Verdict {
             number,
             place,
-            condition: 0,
+            ..Verdict::default()
         }
+    }
+}
+
+// In 01's order.
+impl From<Verdict> for [u32; 6] {
+    ghost use Rattle.std.specs.Prelude.{◌≡◌};
+    ghost use Rattle.framing.specs.meaning.Record.{numbers_of};
+
+    ghost from_gives = { λ verdict numbers. numbers ≡ numbers_of verdict };
+
+    fn from(verdict: Verdict) -> [u32; 6] {
+        [
+            verdict.number,
+            verdict.place.at,
+            verdict.place.line,
+            verdict.place.element,
+            verdict.place.component,
+            verdict.condition,
+        ]
     }
 }
 
@@ -43,10 +60,7 @@ impl Verdict {
 pub fn put_verdict(numbers: &mut [u32], verdict: Verdict)
     ensures { numbers.new ≡ as_many_as_fit (numbers_of verdict) numbers.old }
 {
-    slices::put(numbers, 0, verdict.number);
-    slices::put(numbers, 1, verdict.place.at);
-    slices::put(numbers, 2, verdict.place.line);
-    slices::put(numbers, 3, verdict.place.element);
-    slices::put(numbers, 4, verdict.place.component);
-    slices::put(numbers, 5, verdict.condition);
+    let entries = <[u32; 6]>::from(verdict);
+    let fitting = entries.len().min(numbers.len());
+    numbers[..fitting].copy_from_slice(&entries[..fitting]);
 }

@@ -8,6 +8,7 @@ use mathlib.Core.Logic.{◌↔◌, inl, inr}
 use lib.Dec.{eqb, leb}
 use lib.ListN.{length, length-append}
 use borrow.Author.Tests.{eq-eqb, ne_eqb, eqb-true, eqb-false, le-leb, leb-true}
+use Rattle.std.specs.Prelude.{Ok, Err}
 use Rattle.reading.specs.meaning.Service.{All, GoodService}
 use Rattle.reading.specs.meaning.Message.{Component, Segment, Message, ValidTag, ValidSegment, write_component, write_segments, render}
 use Rattle.reading.specs.meaning.Component.{value_at, same_component}
@@ -26,10 +27,9 @@ use Rattle.reading_laws.proofs.Tags.{one_tag, valid_unh, valid_unt, tag_of_segme
 use Rattle.reading.specs.meaning.Digit.{is_digit}
 use Rattle.framing.specs.meaning.Decimal.{InDecimal}
 use Rattle.framing.specs.method.Decimal.{is_decimal}
-use Rattle.framing.specs.method.Stages.{is_misplaced, frame_from, frame_of, component_at}
+use Rattle.framing.specs.method.Stages.{Frame, is_misplaced, frame_from, frame_of, component_at}
 use Rattle.framing.specs.meaning.Table.{Unless, FirstWrong, NoneWrong, Misplaced, no_unh, another_unh, no_unt, another_unt, IsFirst, IsLast, TellsCount, TellsReference}
-use Rattle.framing.specs.declared.survey.Frame.{Frame}
-use Rattle.framing.specs.declared.survey.Frame.TheVariants as frame
+use Rattle.framing.specs.declared.refusal.Refusal.TheVariants as refusal
 use Rattle.framing.specs.declared.verdict.Verdict.{Verdict}
 use Rattle.framing_laws.proofs.Decimals.{decimal}
 use Rattle.reading.proofs.Booleans.{or-true}
@@ -138,15 +138,15 @@ module _ (s : Service) (service : GoodService s) where
     LastAt bs last (g ∷ gs) at = (x : Segment) × IsLast (g ∷ gs) x × SegmentAt s bs at x
 
     pub data Framed (bs : List ℕ) (k last : ℕ) (m : Message) : Frame → Type 0 where
-      wrong : (p : ℕ) → FirstWrong (Misplaced n) k m p → Framed bs k last m (frame.Misplaced p)
-      right : (at : ℕ) → NoneWrong (Misplaced n) k m → LastAt bs last m at → Framed bs k last m (frame.Closes at)
+      wrong : (p : ℕ) → FirstWrong (Misplaced n) k m p → Framed bs k last m (Err (refusal.Misplaced p))
+      right : (at : ℕ) → NoneWrong (Misplaced n) k m → LastAt bs last m at → Framed bs k last m (Ok at)
 
     later_last : (bs : List ℕ) (g : Segment) (gs : Message) (last at : ℕ) → SegmentAt s bs last g → LastAt bs last gs at → LastAt bs last (g ∷ gs) at
     later_last bs g [] last at i e = (g, refl, subst (λ (x : ℕ). SegmentAt s bs x g) (sym e) i)
     later_last bs g (h ∷ gs) last at i (x, l, there) = (x, l, there)
 
     frame_step : (bs : List ℕ) (k last next : ℕ) (g : Segment) (gs : Message) (v : Bool) (f : Frame) → ((v ≡ true) ↔ Misplaced n (suc k) g) → SegmentAt s bs next g
-        → Framed bs (suc k) next gs f → Framed bs k last (g ∷ gs) (cond v (frame.Misplaced (suc k)) f)
+        → Framed bs (suc k) next gs f → Framed bs k last (g ∷ gs) (cond v (Err (refusal.Misplaced (suc k))) f)
     frame_step bs k last next g gs true f m i r = wrong (suc k) (inl (m.0 refl, refl))
     frame_step bs k last next g gs false f m i (wrong p w) = wrong p (inr (λ h. false≢true (m.1 h), w))
     frame_step bs k last next g gs false f m i (right at w l) = right at (λ h. false≢true (m.1 h), w) (later_last bs g gs next at i l)

@@ -8,6 +8,7 @@ use mathlib.Core.Logic.{◌↔◌, ◌⊎◌, inl, inr}
 use lib.Dec.{eqb, leb, ltb}
 use lib.ListN.{length}
 use borrow.Author.Tests.{eqb-true, le-leb, leb-true, lt-ltb, ltb-true}
+use Rattle.std.specs.Prelude.{Ok}
 use Rattle.framing.specs.meaning.Limits.{most_bytes, most_segments}
 use Rattle.reading.specs.meaning.Service.{All, GoodService}
 use Rattle.reading.specs.meaning.Message.{Segment, Message, ValidSegment, write_segments, render}
@@ -25,9 +26,7 @@ use Rattle.reading_laws.proofs.FirstBad.{scan_means, one_first_bad}
 use Rattle.framing.specs.meaning.Record.{answer}
 use Rattle.framing.specs.meaning.Table.{Unless, FirstWrong, NoneWrong, Sized, Misplaced, IsFirst, IsLast, TellsCount, TellsReference, MessageSays, BytesSay}
 use Rattle.framing.specs.method.Decimal.{is_decimal}
-use Rattle.framing.specs.method.Stages.{is_sized, has_room, frame_of, component_at, closing_stage, frame_stage, count_stage, scan_stage, message_stage}
-use Rattle.framing.specs.declared.survey.Frame.{Frame}
-use Rattle.framing.specs.declared.survey.Frame.TheVariants as frame
+use Rattle.framing.specs.method.Stages.{is_sized, has_room, Frame, frame_of, component_at, closing_stage, frame_stage, count_stage, scan_stage, message_stage}
 use Rattle.framing.specs.declared.message.Room.{Room}
 use Rattle.framing.specs.declared.verdict.Verdict.{Verdict}
 use Rattle.framing.proofs.Passing.{room_exactly, clear_message}
@@ -144,7 +143,7 @@ module _ (s : Service) (service : GoodService s) (bs : List ℕ) (room : Room) (
             (unless (same_component (component_at s bs at 2 1) (component_at s bs 0 1 1)) (answer 9 n) (rest n) v
             (reference_exactly s service bs m first.0 last.0 at first.1 first.2 last.1 last.2) (agrees none))
 
-        from : FrameSays → of_frame s bs room rest n (frame.Closes at) ≡ v
+        from : FrameSays → of_frame s bs room rest n (Ok at) ≡ v
         from (inl (q, j, e)) = absurd (first_or_none (Misplaced n) 0 m q j none)
         from (inr (h, x)) = after_closing s bs room rest n at ∙ closing.1 x
 

@@ -2,3 +2,4 @@
 pub mod Sizes
 pub mod Codes
 pub mod Targets
+pub mod Spoken

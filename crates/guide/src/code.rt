@@ -9,32 +9,15 @@ use crate::layout;
 fn is_code(book: &[u8], code: u32, part: &[u8]) -> bool
     ensures { result ≡ is_code (guide_of book.now) code part.now }
 {
-    let long = layout::code_length(book, code) as usize;
-    if part.len() != long {
-        return false;
-    }
-    let mut at: u32 = 0;
-    while (at as usize) < part.len() {
-        if part[at as usize] as u32 != layout::code_byte(book, code, at) {
-            return false;
-        }
-        at += 1;
-    }
-    true
+    let length = layout::code_length(book, code);
+    part.len() == length as usize
+        && (0..length).all(|at| u32::from(part[at as usize]) == layout::code_byte(book, code, at))
 }
 
 // First and count have two bytes, as a book says them.
 pub fn is_any_code(book: &[u8], first: u16, count: u16, part: &[u8]) -> bool
     ensures { result ≡ is_any_code (guide_of book.now) first count part.now }
 {
-    let mut code = first as u32;
-    let mut left = count;
-    while left > 0 {
-        if is_code(book, code, part) {
-            return true;
-        }
-        code += 1;
-        left -= 1;
-    }
-    false
+    let first = u32::from(first);
+    (first..first + u32::from(count)).any(|code| is_code(book, code, part))
 }

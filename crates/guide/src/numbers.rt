@@ -8,7 +8,7 @@ pub fn u16_at(book: &[u8], at: usize) -> u32
     ensures { (result ≡ u16At book.now at) × (result < 65536) }
 {
     if at + 1 < book.len() {
-        return book[at] as u32 + 256 * (book[at + 1] as u32);
+        return u32::from(book[at]) + 256 * u32::from(book[at + 1]);
     }
     slices::byte_at(book, at)
 }

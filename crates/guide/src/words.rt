@@ -1,35 +1,121 @@
-// The numbers that stand for words in a book, by name. 01, "The guide book".
+// The words that a book says by a number. 01, "The guide book". A number that stands for no word is NoWord: any bytes are a book.
+ghost use Rattle.guide.specs.method.Spoken.{SpeaksKind, SpeaksPresence, SpeaksForm, SpeaksMode, SpeaksJoint};
+
+// No word has the number.
+#[derive(Clone, Copy, PartialEq, Eq, Debug)]
+pub struct NoWord;
 
 // A line: "kind (1 segment, 2 group)".
-pub const KIND_SEGMENT: u32 = 1;
+#[derive(Clone, Copy, PartialEq, Eq, Debug)]
+pub enum LineKind {
+    Segment,
+    Group,
+}
 
-pub const KIND_GROUP: u32 = 2;
-
-// A field: "presence (0 must be empty, 1 must have bytes, 2 may, 3 must if any component of its element has bytes)". What may be there is
-// never asked for, and needs no name.
-pub const PRESENCE_EMPTY: u32 = 0;
-
-pub const PRESENCE_MUST: u32 = 1;
-
-pub const PRESENCE_WITH_ELEMENT: u32 = 3;
+// A field: "presence (0 must be empty, 1 must have bytes, 2 may, 3 must if any component of its element has bytes)".
+#[derive(Clone, Copy, PartialEq, Eq, Debug)]
+pub enum Presence {
+    Empty,
+    Must,
+    May,
+    WithElement,
+}
 
 // "form (1 an, 2 n)".
-pub const FORM_TEXT: u32 = 1;
-
-pub const FORM_NUMBER: u32 = 2;
+#[derive(Clone, Copy, PartialEq, Eq, Debug)]
+pub enum Form {
+    Text,
+    Number,
+}
 
 // A row: "Modes: 0 never, 1 must, 2 may, 3 must if the expression holds and otherwise never, 4 may if it holds and otherwise never."
-pub const MODE_NEVER: u32 = 0;
-
-pub const MODE_MUST: u32 = 1;
-
-pub const MODE_MAY: u32 = 2;
-
-pub const MODE_MUST_IF: u32 = 3;
-
-pub const MODE_MAY_IF: u32 = 4;
+#[derive(Clone, Copy, PartialEq, Eq, Debug)]
+pub enum Mode {
+    Never,
+    Must,
+    May,
+    MustIf,
+    MayIf,
+}
 
 // "Joint 1 is all, 2 is any".
-pub const JOINT_ALL: u32 = 1;
+#[derive(Clone, Copy, PartialEq, Eq, Debug)]
+pub enum Joint {
+    All,
+    Any,
+}
 
-pub const JOINT_ANY: u32 = 2;
+impl TryFrom<u32> for LineKind {
+    type Error = NoWord;
+
+    ghost try_from_gives = { SpeaksKind };
+
+    fn try_from(number: u32) -> Result<Self, NoWord> {
+        match number {
+            1 => Ok(LineKind::Segment),
+            2 => Ok(LineKind::Group),
+            _ => Err(NoWord),
+        }
+    }
+}
+
+impl TryFrom<u32> for Presence {
+    type Error = NoWord;
+
+    ghost try_from_gives = { SpeaksPresence };
+
+    fn try_from(number: u32) -> Result<Self, NoWord> {
+        match number {
+            0 => Ok(Presence::Empty),
+            1 => Ok(Presence::Must),
+            2 => Ok(Presence::May),
+            3 => Ok(Presence::WithElement),
+            _ => Err(NoWord),
+        }
+    }
+}
+
+impl TryFrom<u32> for Form {
+    type Error = NoWord;
+
+    ghost try_from_gives = { SpeaksForm };
+
+    fn try_from(number: u32) -> Result<Self, NoWord> {
+        match number {
+            1 => Ok(Form::Text),
+            2 => Ok(Form::Number),
+            _ => Err(NoWord),
+        }
+    }
+}
+
+impl TryFrom<u32> for Mode {
+    type Error = NoWord;
+
+    ghost try_from_gives = { SpeaksMode };
+
+    fn try_from(number: u32) -> Result<Self, NoWord> {
+        match number {
+            0 => Ok(Mode::Never),
+            1 => Ok(Mode::Must),
+            2 => Ok(Mode::May),
+            3 => Ok(Mode::MustIf),
+            4 => Ok(Mode::MayIf),
+            _ => Err(NoWord),
+        }
+    }
+}
+
+impl TryFrom<u32> for Joint {
+    type Error = NoWord;
+
+    ghost try_from_gives = { SpeaksJoint };
+
+    fn try_from(number: u32) -> Result<Self, NoWord> {
+        match number {
+            1 => Ok(Joint::All),
+            2 => Ok(Joint::Any),
+            _ => Err(NoWord),
+        }
+    }
+}

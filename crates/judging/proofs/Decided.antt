@@ -28,27 +28,25 @@ use Rattle.placing.specs.method.Fitting.{home_at}
 use Rattle.reading.specs.method.Starts.{starts_from, starts_table}
 use Rattle.placing.specs.method.Passes.{homes_from, tested, homes_table, parents_table}
 use Rattle.placing.proofs.Passing.{filled}
-use Rattle.placing.specs.declared.passes.Placing.{Placing}
-use Rattle.placing.specs.declared.passes.Placing.TheVariants.{Begins, NoHome, Stops}
+use Rattle.std.specs.Prelude.{⊤, Option, Some, None, Result, Ok, Err}
+use Rattle.placing.specs.declared.passes.Unplaced.{Unplaced}
+use Rattle.placing.specs.declared.passes.Unplaced.TheVariants.{NoHome, Stops}
 use Rattle.fields.specs.method.Testing.{first_fault}
 use Rattle.fields.specs.declared.passes.FirstFault.{FirstFault}
-use Rattle.fields.specs.declared.passes.FirstFault.TheVariants.{At, Clean}
 use Rattle.rules.specs.method.Conditions.{are_truth_values}
 use Rattle.rules.specs.method.Identifiers.{identified}
 use Rattle.rules.specs.method.Scanning.{scanned_row}
-use Rattle.rules.specs.declared.finding.Finding.{Finding}
-use Rattle.rules.specs.declared.finding.Finding.TheVariants.{Kept, Broken, Unsettled}
-use Rattle.rules.specs.declared.identifier.Identified.{Identified}
-use Rattle.rules.specs.declared.identifier.Identified.TheVariants.{Known, Foreign}
+use Rattle.rules.specs.method.Scanning.{Outcome}
+use Rattle.rules.specs.declared.finding.Finding.TheVariants.{Broken, Unsettled}
 use Rattle.judging.specs.method.Table.{book_stage, conditions_stage, placing_stage, refusal, identifier_in, identifier_verdict, placed_verdict, placed_stage, judged, unless_refused, tables_after}
 use Rattle.judging.proofs.Refusals.{refusal_is}
 
 -- ---- which numbers are refusals
 
-low_placing : (n : ℕ) (p : Placing) → Low (placing_verdict n p)
-low_placing n Begins = omega arith
-low_placing n (NoHome k) = omega arith
-low_placing n (Stops k) = omega arith
+low_placing : (n : ℕ) (p : Result ⊤ Unplaced) → Low (placing_verdict n p)
+low_placing n (Ok _) = omega arith
+low_placing n (Err (NoHome k)) = omega arith
+low_placing n (Err (Stops k)) = omega arith
 
 module _ (s : Service) (bs : List ℕ) where
   pub low_refusal : (book cs : List ℕ) (room : Room) → Low (refusal s bs book cs room)
@@ -68,10 +66,10 @@ pub not_refused : (v : Verdict) (before after : List ℕ) → is_refusal v.numbe
 not_refused v before after e = ap (λ (b : Bool). cond b before after) (sym e)
 
 -- the verdicts on a placed message are no refusals
-rows_number : (n : ℕ) (f : Finding) → is_refusal (rows_verdict n f).number ≡ false
-rows_number n Kept = refl
-rows_number n (Broken k l) = refl
-rows_number n (Unsettled k l c) = refl
+rows_number : (n : ℕ) (f : Outcome) → is_refusal (rows_verdict n f).number ≡ false
+rows_number n (Ok _) = refl
+rows_number n (Err (Broken k l)) = refl
+rows_number n (Err (Unsettled k l c)) = refl
 
 module _ (s : Service) (book bs cs : List ℕ) (n : ℕ) where
   pub placed_number : is_refusal (placed_stage s bs book cs n).number ≡ false
@@ -80,23 +78,23 @@ module _ (s : Service) (book bs cs : List ℕ) (n : ℕ) where
       go (first_fault s (guide_of book) bs 0 (starts_from s bs n 0) (homes_from s bs book n 0))
       (identified (guide_of book) (identifier_in s (guide_of book) bs (starts_from s bs n 0) (homes_from s bs book n 0)))
     where
-      go : (f : FirstFault) (i : Identified)
+      go : (f : Result ⊤ FirstFault) (i : Option ℕ)
           → is_refusal (fields_verdict f (identifier_verdict (guide_of book) cs n (homes_from s bs book n 0) i)).number ≡ false
-      go (At k l e c) i = refl
-      go Clean Foreign = refl
-      go Clean (Known p) = rows_number n (scanned_row (guide_of book) p cs (homes_from s bs book n 0))
+      go (Err x) i = refl
+      go (Ok _) None = refl
+      go (Ok _) (Some p) = rows_number n (scanned_row (guide_of book) p cs (homes_from s bs book n 0))
 
 -- ---- where nothing is refused, each stage has passed
 
-pub placing_same : (n : ℕ) (p : Placing) → (placing_verdict n p).number ≡ 0 → (p ≡ Begins) × (placing_verdict n p ≡ answer 0 n)
-placing_same n Begins e = (refl, refl)
-placing_same n (NoHome k) e = absurd (fault {n = 10} (omega arith) e)
-placing_same n (Stops k) e = absurd (fault {n = 11} (omega arith) e)
+pub placing_same : (n : ℕ) (p : Result ⊤ Unplaced) → (placing_verdict n p).number ≡ 0 → (p ≡ Ok tt) × (placing_verdict n p ≡ answer 0 n)
+placing_same n (Ok _) e = (refl, refl)
+placing_same n (Err (NoHome k)) e = absurd (fault {n = 10} (omega arith) e)
+placing_same n (Err (Stops k)) e = absurd (fault {n = 11} (omega arith) e)
 
 pub record ClearStages (s : Service) (bs book cs : List ℕ) (room : Room) : Type 0 where
   pub book_passed : (book_stage book).number ≡ 0
   pub message_passed : ClearMessage s bs room (message_stage s bs room)
-  pub placing_passed : tested (plan_in book) (homes_from s bs book message_passed.segments 0) ≡ Begins
+  pub placing_passed : tested (plan_in book) (homes_from s bs book message_passed.segments 0) ≡ Ok tt
   pub same : refusal s bs book cs room ≡ answer 0 message_passed.segments
 
 module _ (s : Service) (bs book cs : List ℕ) (room : Room) where

@@ -2,3 +2,4 @@
 -- proved in the crate demands.
 pub mod Answers
 pub mod Table
+pub mod Refusals

@@ -27,11 +27,10 @@ pub fn judge(
         homes: homes.len(),
         parents: parents.len(),
     };
-    let refusal = refusing::refuse(service, message, book, conditions, room);
-    if refusal.number != 0 {
-        return refusal;
-    }
-    let segments = refusal.place.at;
+    let segments = match refusing::refuse(service, message, book, conditions, room) {
+        Ok(segments) => segments,
+        Err(refusal) => return refusal.into(),
+    };
     placing::write_tree(service, message, segments, book, starts, homes, parents);
     placed::placed_stage(service, message, segments, book, conditions, starts, homes)
 }

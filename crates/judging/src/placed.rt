@@ -7,13 +7,11 @@ ghost use Rattle.judging.specs.method.Table.{identifier_in, identifier_verdict, 
 ghost use Rattle.judging.specs.method.Answers.{rows_verdict};
 ghost use Rattle.framing.specs.meaning.Record.{verdict, place as at};
 
-use fields::FirstFault;
-use framing::Verdict;
+use framing::{Place, Verdict};
 use guide::layout;
 use reading::lookup;
 use reading::service::Service;
 use rules::finding::Finding;
-use rules::identifier::Identified;
 use rules::{first_row, identifier};
 
 // Numbers 12 to 15; number 0 where there is none of these.
@@ -30,23 +28,29 @@ pub fn placed_stage(
     ensures { result ≡ placed_verdict service (guide_of book.now) message.now conditions.now segments (take segments starts.now) (take segments homes.now) }
 {
     match fields::test_fields(service, message, segments, book, starts, homes) {
-        FirstFault::At(place, line, element, component) => {
-            fault_verdict(place, line, element as u32, component as u32)
-        }
-        FirstFault::Clean => rules_stage(
-            service, message, segments, book, conditions, starts, homes,
+        Err(fault) => fault_verdict(
+            fault.place,
+            fault.line,
+            fault.element as u32,
+            fault.component as u32,
         ),
+        Ok(()) => rules_stage(service, message, segments, book, conditions, starts, homes),
     }
 }
 
 fn fault_verdict(place: u32, line: u32, element: u32, component: u32) -> Verdict
     ensures { result ≡ verdict 12 (at place line element component) 0 }
 {
-    let mut verdict = Verdict::answer(12, place);
-    verdict.place.line = line;
-    verdict.place.element = element;
-    verdict.place.component = component;
-    verdict
+    Verdict {
+        number: 12,
+        place: Place {
+            at: place,
+            line,
+            element,
+            component,
+        },
+        condition: 0,
+    }
 }
 
 // Numbers 13 to 15.
@@ -62,33 +66,44 @@ fn rules_stage(
     ensures { result ≡ identifier_verdict (guide_of book.now) conditions.now segments (take segments homes.now)
         (identified (guide_of book.now) (identifier_in service (guide_of book.now) message.now (take segments starts.now) (take segments homes.now))) }
 {
-    let place = placing::place_of(homes, segments, layout::carrier(book));
+    let place = placing::place_of(homes, segments, layout::carrier(book)).unwrap_or(0);
     let at = placing::start_of(starts, segments, place) as usize;
     let value = lookup::find_component(service, message, at, 1, 2);
     match identifier::find_identifier(book, value) {
-        Identified::Foreign => Verdict::answer(13, place),
-        Identified::Known(known) => {
+        None => Verdict::answer(13, place),
+        Some(known) => {
             let found = first_row::first_row(book, known, conditions, segments, homes);
             row_verdict(segments, found)
         }
     }
 }
 
-fn row_verdict(segments: u32, found: Finding) -> Verdict
+fn row_verdict(segments: u32, found: Result<(), Finding>) -> Verdict
     ensures { result ≡ rows_verdict segments found }
 {
     match found {
-        Finding::Kept => Verdict::answer(0, segments),
-        Finding::Broken(place, line) => row_fault(14, place, line, 0),
-        Finding::Unsettled(place, line, condition) => row_fault(15, place, line, condition),
+        Ok(()) => Verdict::answer(0, segments),
+        Err(Finding::Broken { place, line }) => row_fault(14, place, line, 0),
+        Err(
+            Finding::Unsettled {
+                place,
+                line,
+                condition,
+            },
+        ) => row_fault(15, place, line, condition),
     }
 }
 
 fn row_fault(number: u32, place: u32, line: u32, condition: u32) -> Verdict
     ensures { result ≡ verdict number (at place line 0 0) condition }
 {
-    let mut verdict = Verdict::answer(number, place);
-    verdict.place.line = line;
-    verdict.condition = condition;
-    verdict
+    Verdict {
+        number,
+        place: Place {
+            at: place,
+            line,
+            ..Place::default()
+        },
+        condition,
+    }
 }

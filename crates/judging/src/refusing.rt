@@ -1,69 +1,97 @@
 // The refusals, numbers 1 to 11, in the order of 01's table. They touch no table. Numbers 3 to 9 are asked in the crate framing.
-ghost use Rattle.std.specs.Prelude.{◌≡◌};
+ghost use Rattle.std.specs.Prelude.{◌≡◌, ◌&&◌, ◌==◌, length};
 ghost use Rattle.guide.specs.meaning.Guide.{guide_of};
-ghost use Rattle.judging.specs.method.Table.{book_stage, conditions_stage, placing_stage, refusal};
+ghost use Rattle.rules.specs.method.Conditions.{are_truth_values};
+ghost use Rattle.judging.specs.method.Refusals.{told};
+ghost use Rattle.judging.specs.method.Table.{refusal};
 
+use book::BadBook;
 use framing::{Room, Verdict};
 use guide::layout;
-use placing::Placing;
+use placing::Unplaced;
 use reading::service::Service;
 
-// Numbers 1 to 11; number 0 with the segment count where there is none of these.
+#[derive(Clone, Copy, PartialEq, Eq, Debug)]
+pub enum Refusal {
+    Book,
+    Conditions,
+    Message(framing::Refusal),
+    Placing(Unplaced),
+}
+
+impl From<BadBook> for Refusal {
+    ghost use Rattle.std.specs.Prelude.{◌≡◌};
+    ghost use Rattle.judging.specs.declared.refusing.Refusal.TheVariants.{Book};
+
+    ghost from_gives = { λ _ refusal. refusal ≡ Book };
+
+    fn from(_: BadBook) -> Refusal {
+        Refusal::Book
+    }
+}
+
+impl From<framing::Refusal> for Refusal {
+    ghost use Rattle.std.specs.Prelude.{◌≡◌};
+    ghost use Rattle.judging.specs.declared.refusing.Refusal.TheVariants.{Message};
+
+    ghost from_gives = { λ of_message refusal. refusal ≡ Message of_message };
+
+    fn from(of_message: framing::Refusal) -> Refusal {
+        Refusal::Message(of_message)
+    }
+}
+
+impl From<Unplaced> for Refusal {
+    ghost use Rattle.std.specs.Prelude.{◌≡◌};
+    ghost use Rattle.judging.specs.declared.refusing.Refusal.TheVariants.{Placing};
+
+    ghost from_gives = { λ of_placing refusal. refusal ≡ Placing of_placing };
+
+    fn from(of_placing: Unplaced) -> Refusal {
+        Refusal::Placing(of_placing)
+    }
+}
+
+// 01's numbers.
+impl From<Refusal> for Verdict {
+    ghost use Rattle.std.specs.Prelude.{◌≡◌};
+    ghost use Rattle.judging.specs.method.Refusals.{verdict_of};
+
+    ghost from_gives = { λ refusal verdict. verdict ≡ verdict_of refusal };
+
+    fn from(refusal: Refusal) -> Verdict {
+        match refusal {
+            Refusal::Book => Verdict::answer(1, 0),
+            Refusal::Conditions => Verdict::answer(2, 0),
+            Refusal::Message(of_message) => of_message.into(),
+            Refusal::Placing(Unplaced::NoHome(place)) => Verdict::answer(10, place),
+            Refusal::Placing(Unplaced::Stops(place)) => Verdict::answer(11, place),
+        }
+    }
+}
+
+// Numbers 1 to 11; or the segment count where there is none of these.
 pub fn refuse(
     service: Service,
     message: &[u8],
     book: &[u8],
     conditions: &[u8],
     room: Room,
-) -> Verdict
-    ensures { result ≡ refusal service message.now book.now conditions.now room }
+) -> Result<u32, Refusal>
+    ensures { told result ≡ refusal service message.now book.now conditions.now room }
 {
-    let of_book = book_stage(book);
-    if of_book.number != 0 {
-        return of_book;
+    book::check_book(book)?;
+    if !are_conditions(book, conditions) {
+        return Err(Refusal::Conditions);
     }
-    let of_conditions = conditions_stage(book, conditions);
-    if of_conditions.number != 0 {
-        return of_conditions;
-    }
-    let of_message = framing::message_stage(service, message, room);
-    if of_message.number != 0 {
-        return of_message;
-    }
-    placing_stage(service, message, book, of_message.place.at)
+    let segments = framing::message_stage(service, message, room)?;
+    placing::test_placing(service, message, segments, book)?;
+    Ok(segments)
 }
 
-// Number 1.
-fn book_stage(book: &[u8]) -> Verdict
-    ensures { result ≡ book_stage book.now }
+// As many conditions as the book says, and no byte above 2.
+fn are_conditions(book: &[u8], conditions: &[u8]) -> bool
+    ensures { result ≡ (length conditions.now == (guide_of book.now).conditions && are_truth_values conditions.now) }
 {
-    if book::check_book(book) != 0 {
-        return Verdict::answer(1, 0);
-    }
-    Verdict::answer(0, 0)
-}
-
-// Number 2.
-fn conditions_stage(book: &[u8], conditions: &[u8]) -> Verdict
-    ensures { result ≡ conditions_stage (guide_of book.now) conditions.now }
-{
-    let wanted = layout::conditions(book) as usize;
-    if conditions.len() != wanted {
-        return Verdict::answer(2, 0);
-    }
-    if !rules::are_truth_values(conditions) {
-        return Verdict::answer(2, 0);
-    }
-    Verdict::answer(0, 0)
-}
-
-// Numbers 10 and 11.
-fn placing_stage(service: Service, message: &[u8], book: &[u8], segments: u32) -> Verdict
-    ensures { result ≡ placing_stage service message.now book.now segments }
-{
-    match placing::test_placing(service, message, segments, book) {
-        Placing::Begins => Verdict::answer(0, segments),
-        Placing::NoHome(place) => Verdict::answer(10, place),
-        Placing::Stops(place) => Verdict::answer(11, place),
-    }
+    conditions.len() == layout::conditions(book) as usize && rules::are_truth_values(conditions)
 }

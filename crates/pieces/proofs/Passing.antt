@@ -9,15 +9,15 @@ use lib.Dec.{eqb, ltb}
 use lib.ListN.{length, get_or, set, take, drop, length-drop, length-set, drop_of_length-le, take-append-drop}
 use lib.Seq.{drop-cons, drop-drop, length-take-le}
 use borrow.Author.Tests.{eq-eqb, ltb-true, lt-ltb, le-ltb, le-leb, lt-leb}
-use Rattle.reading.specs.method.Machine.{pick, kind_of, is_text, stepped, is_start, is_dead, end_on, segment_end, or_length}
+use Rattle.reading.specs.method.Machine.{pick, kind_of, is_text, stepped, is_start, is_dead, end_on, segment_end}
 use Rattle.reading.specs.method.Kept as marks
 use Rattle.reading.specs.meaning.Service.{must_release}
 use Rattle.reading.specs.declared.service.Service.{Service}
 use Rattle.reading.specs.declared.machine.State.{State}
 use Rattle.reading.specs.declared.machine.State.TheVariants.{Start, Second, Third, Tagged, Opened, Parted, Inside, Released, Dead}
-use Rattle.reading.specs.declared.cursor.End.TheVariants.{At, Nowhere}
+use Rattle.std.specs.Prelude.{Some, None}
 use Rattle.reading.proofs.States.{Course, ends, goes_on, fails, course}
-use Rattle.reading.proofs.Ending.{at_is, not_at, end_told, held_step, text_held, after_release}
+use Rattle.reading.proofs.Ending.{at_is, not_at, held_step, text_held, after_release}
 use Rattle.slices.specs.method.Entries.{entry}
 use Rattle.framing.specs.meaning.Limits.{most_bytes, most_segments}
 use Rattle.pieces.specs.declared.progress.Progress.{Progress}
@@ -27,13 +27,13 @@ use Rattle.pieces.specs.method.Stops.{stops, stop, pass_on, is_held, after_text,
 
 -- ---- a segment that is found whole
 
-pub end_passes : (s : Service) (p : State) (at end : ℕ) (bs : List ℕ) → end_on s p at bs ≡ At end → pass_on s p at bs ≡ stop Start end
+pub end_passes : (s : Service) (p : State) (at end : ℕ) (bs : List ℕ) → end_on s p at bs ≡ Some end → pass_on s p at bs ≡ stop Start end
 unfolding end_on pass_on
 end_passes s p at end [] e = absurd (not_at e)
 end_passes s p at end (b ∷ bs) e = go (course (stepped s p b)) (λ q. end_passes s q (at + 1) end bs) e
   where
-    go : {q : State} → Course q → ((x : State) → end_on s x (at + 1) bs ≡ At end → pass_on s x (at + 1) bs ≡ stop Start end)
-        → pick (is_start q) (At at) (pick (is_dead q) Nowhere (end_on s q (at + 1) bs)) ≡ At end
+    go : {q : State} → Course q → ((x : State) → end_on s x (at + 1) bs ≡ Some end → pass_on s x (at + 1) bs ≡ stop Start end)
+        → pick (is_start q) (Some at) (pick (is_dead q) None (end_on s q (at + 1) bs)) ≡ Some end
         → cond (stops q) (stop q at) (pass_on s q (at + 1) bs) ≡ stop Start end
     go ends ih h = ap (stop Start) (at_is h)
     go (goes_on t d) ih h = rw (t, d) (ih _ (rw (t, d) at h))
@@ -198,9 +198,6 @@ module _ (s : Service) (p : State) (from : ℕ) (bs : List ℕ) (q next : State)
 
 -- ---- over data
 
-pub data_begin : (s : Service) (bs : List ℕ) (q : State) (from : ℕ) → PassesData s bs q from (stop q from)
-data_begin s bs q from = record { onward = omega arith; same = refl }
-
 -- what holds of the three states where text may follow holds of each
 each_held : (P : State → Type 0) → P Opened → P Parted → P Inside → (q : State) → is_held q ≡ true → P q
 each_held P o p i Opened e = o
@@ -231,7 +228,7 @@ release_step s b e = each_held (λ q. stepped s q b ≡ Released) (rw is refl) (
     is = eq-eqb b s.release e
 
 -- behind a release: the byte is there, and may be released
-pub released_there : (s : Service) (bs : List ℕ) (at : ℕ) → (ltb at (length bs) && must_release s (get_or bs at 0)) ≡ true
+released_there : (s : Service) (bs : List ℕ) (at : ℕ) → (ltb at (length bs) && must_release s (get_or bs at 0)) ≡ true
     → (at < length bs) × (must_release s (get_or bs at 0) ≡ true)
 released_there s bs at e = go (ltb at (length bs)) refl e
   where
@@ -278,10 +275,10 @@ module _ (s : Service) (bs : List ℕ) (p : State) (from : ℕ) (q : State) (at 
       )
 
 -- a segment that is found whole
-pub stopping_found : (s : Service) (p : State) (from : ℕ) (bs : List ℕ) (end : ℕ) → is_start p ≡ true → end ≡ or_length bs (segment_end s bs from) → end < length bs
+pub stopping_found : (s : Service) (p : State) (from : ℕ) (bs : List ℕ) (end : ℕ) → is_start p ≡ true → Some end ≡ segment_end s bs from
     → stop Start end ≡ pass_on s p from (drop from bs)
-stopping_found s p from bs end t e h =
-    sym (ap (λ (q : State). pass_on s q from (drop from bs)) (start_is (course p) t) ∙ end_passes s Start from end (drop from bs) (end_told s bs from end e h))
+stopping_found s p from bs end t e =
+    sym (ap (λ (q : State). pass_on s q from (drop from bs)) (start_is (course p) t) ∙ end_passes s Start from end (drop from bs) (sym e))
   where
     start_is : {q : State} → Course q → is_start q ≡ true → q ≡ Start
     start_is ends z = refl
@@ -305,9 +302,6 @@ module _ (s : Service) (p : Progress) (starts piece : List ℕ) where
     pub bytes : come.bytes ≡ p.bytes + at
     pub inside : at ≤ length piece
     pub as_long : length table ≡ length starts
-
-  pub along_begin : Along p starts 0
-  along_begin = record { same = refl; bytes = omega arith; inside = omega arith; as_long = refl }
 
   pub along_end : (come : Progress) (table : List ℕ) (at : ℕ) → Along come table at → length piece ≤ at → (come ≡ whole.progress) × (table ≡ whole.starts)
   unfolding held_after
@@ -420,15 +414,12 @@ module _ (s : Service) (p : Progress) (starts piece : List ℕ) where
       let e = sym (over_stays s p starts piece h) in
       (ap (λ (x : Held). x.progress) e, ap (λ (x : Held). x.starts) e)
 
-  -- a piece of which the first `left` bytes lie within the most; `&piece[0..left]` is the first `left - 0`
+  -- a piece of which the first `left` bytes lie within the most
   module _ (left : ℕ) (full : p.bytes + left ≡ most_bytes) (longer : left < length piece) (within : Progress) (table : List ℕ)
-      (i₀ : within ≡ (whole s p starts (take (left - 0) piece)).progress) (j₀ : table ≡ (whole s p starts (take (left - 0) piece)).starts) where
+      (i : within ≡ (whole s p starts (take left piece)).progress) (j : table ≡ (whole s p starts (take left piece)).starts) where
     pub piece_beyond : (r : Progress) → r ≡ gone_on within within.state (most_bytes + 1)
         → (r ≡ (whole s p starts piece).progress) × (table ≡ (whole s p starts piece).starts)
     piece_beyond r is =
-        let all : left - 0 ≡ left = omega arith in
-        let i = i₀ ∙ ap (λ (n : ℕ). (whole s p starts (take n piece)).progress) all in
-        let j = j₀ ∙ ap (λ (n : ℕ). (whole s p starts (take n piece)).starts) all in
         let taken : length (take left piece) ≡ left = length-take-le left piece (omega arith) in
         let dropped : length (drop left piece) ≡ length piece - left = length-drop left piece in
         let come = ap (λ (x : Progress). x.bytes) i ∙ bytes_after s p starts (take left piece) (omega (arith, taken)) in

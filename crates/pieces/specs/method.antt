@@ -3,3 +3,4 @@ pub mod Progress
 pub mod Stops
 pub mod Numbers
 pub mod Calls
+pub mod Outcomes

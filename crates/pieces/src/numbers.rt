@@ -1,14 +1,15 @@
 // Progress as eight numbers, which the caller keeps. Any eight are a progress; eight zeros are a message not yet begun.
-ghost use Rattle.std.specs.Prelude.{◌≡◌, length};
+ghost use Rattle.std.specs.Prelude.{◌≡◌};
 ghost use Rattle.slices.specs.meaning.Lent.{as_many_as_fit};
-ghost use Rattle.pieces.specs.meaning.Calls.{state_length};
-ghost use Rattle.pieces.specs.method.Numbers.{state_number, state_of, flag, progress_of, numbers_of, ended};
+ghost use Rattle.pieces.specs.method.Numbers.{state_number, state_of, progress_of, numbers_of, ended};
 
 use crate::progress::Progress;
 use reading::machine::State;
 
 // Seven are used; the eighth stays as it is.
-pub const NUMBERS: usize = 8;
+pub type Numbers = [usize; 8];
+
+const USED: usize = 7;
 
 fn state_number(state: State) -> usize
     ensures { result ≡ state_number state }
@@ -27,47 +28,24 @@ fn state_number(state: State) -> usize
 }
 
 // Numbers that stand for no state stand for the one from which nothing leads back.
+#[tactic(auto, unfolding(crate::specs::method::Numbers::state_of))]
 fn state_of(number: usize) -> State
     ensures { result ≡ state_of number }
 {
-    if number == 0 {
-        return State::Start;
+    match number {
+        0 => State::Start,
+        1 => State::Second,
+        2 => State::Third,
+        3 => State::Tagged,
+        4 => State::Opened,
+        5 => State::Parted,
+        6 => State::Inside,
+        7 => State::Released,
+        _ => State::Dead,
     }
-    if number == 1 {
-        return State::Second;
-    }
-    if number == 2 {
-        return State::Third;
-    }
-    if number == 3 {
-        return State::Tagged;
-    }
-    if number == 4 {
-        return State::Opened;
-    }
-    if number == 5 {
-        return State::Parted;
-    }
-    if number == 6 {
-        return State::Inside;
-    }
-    if number == 7 {
-        return State::Released;
-    }
-    State::Dead
 }
 
-fn flag(is: bool) -> usize
-    ensures { result ≡ flag is }
-{
-    if is {
-        return 1;
-    }
-    0
-}
-
-pub fn progress_of(numbers: &[usize]) -> Progress
-    requires { length numbers.now ≡ state_length }
+pub fn progress_of(numbers: &Numbers) -> Progress
     ensures { result ≡ progress_of numbers.now }
 {
     Progress {
@@ -81,26 +59,23 @@ pub fn progress_of(numbers: &[usize]) -> Progress
     }
 }
 
-// As many as fit.
-pub fn put_progress(numbers: &mut [usize], progress: Progress)
+#[tactic(auto, unfolding(slices::specs::meaning::Lent::as_many_as_fit))]
+pub fn put_progress(numbers: &mut Numbers, progress: Progress)
     ensures { numbers.new ≡ as_many_as_fit (numbers_of progress) numbers.old }
 {
-    let state = progress.state;
-    let ended = flag(progress.ended);
-    let number = state_number(state);
-    let lacking = flag(progress.lacking);
-    slices::put_size(numbers, 0, ended);
-    slices::put_size(numbers, 1, number);
-    slices::put_size(numbers, 2, progress.bytes);
-    slices::put_size(numbers, 3, progress.bad);
-    slices::put_size(numbers, 4, progress.segments);
-    slices::put_size(numbers, 5, progress.start);
-    slices::put_size(numbers, 6, lacking);
+    numbers[..USED].copy_from_slice(&[
+        usize::from(progress.ended),
+        state_number(progress.state),
+        progress.bytes,
+        progress.bad,
+        progress.segments,
+        progress.start,
+        usize::from(progress.lacking),
+    ]);
 }
 
 // The message has ended. Nothing else changes, and where it had ended before nothing does.
-pub fn put_end(numbers: &mut [usize])
-    requires { length numbers.old ≡ state_length }
+pub fn put_end(numbers: &mut Numbers)
     ensures { numbers.new ≡ ended numbers.old }
 {
     if numbers[0] == 0 {

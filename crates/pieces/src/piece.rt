@@ -2,12 +2,12 @@
 // goes from byte to byte.
 ghost use Rattle.std.specs.Prelude.{◌≡◌, ◌+◌, ◌≤◌, length, drop};
 ghost use Rattle.framing.specs.meaning.Limits.{most_bytes};
-ghost use Rattle.pieces.specs.method.Progress.{lacks, with_start, segment_ended, failed_at, gone_on, held, held_after};
+ghost use Rattle.pieces.specs.method.Progress.{held, held_after};
 ghost use Rattle.pieces.specs.method.Stops.{stops, pass_on, is_held, after_text, PassesData};
 
 use crate::progress;
 use crate::progress::Progress;
-use framing::limits::{LIMIT_BYTES, LIMIT_SEGMENTS};
+use framing::limits::LIMIT_BYTES;
 use reading::machine::State;
 use reading::service::Service;
 use reading::{bytes, machine, segment};
@@ -22,27 +22,14 @@ pub struct Stop {
 fn is_stop(state: State) -> bool
     ensures { result ≡ stops state }
 {
-    if progress::is_start(state) {
-        return true;
-    }
-    machine::is_dead(state)
+    matches!(state, State::Start | State::Dead)
 }
 
 // May text follow? It may right behind a mark, and behind data.
 fn is_held(state: State) -> bool
     ensures { result ≡ is_held state }
 {
-    match state {
-        State::Start => false,
-        State::Second => false,
-        State::Third => false,
-        State::Tagged => false,
-        State::Opened => true,
-        State::Parted => true,
-        State::Inside => true,
-        State::Released => false,
-        State::Dead => false,
-    }
+    matches!(state, State::Opened | State::Parted | State::Inside)
 }
 
 // Behind text, of which this is the last byte.
@@ -50,9 +37,10 @@ fn after_text(service: Service, byte: u8) -> State
     ensures { result ≡ after_text service byte }
 {
     if byte == service.component {
-        return State::Parted;
+        State::Parted
+    } else {
+        State::Inside
     }
-    State::Inside
 }
 
 // Where text may follow, past all of it and past what is released, as far as the piece goes. Of a segment that is longer than a piece,
@@ -65,20 +53,17 @@ fn pass_data(service: Service, piece: &[u8], from: usize, state: State) -> Stop
     }
     let mut held = state;
     let mut at = from;
+    // Stays: a byte that is released is passed with its release, two at a time.
     while at < piece.len() {
         let byte = piece[at];
         if bytes::is_text(service, byte) {
             held = after_text(service, byte);
             at += 1;
-        } else {
-            if byte != service.release {
-                return Stop { state: held, at };
-            }
-            if !segment::is_released(service, piece, at + 1) {
-                return Stop { state: held, at };
-            }
+        } else if byte == service.release && segment::is_released(service, piece, at + 1) {
             held = State::Inside;
             at += 2;
+        } else {
+            return Stop { state: held, at };
         }
     }
     Stop { state: held, at }
@@ -90,6 +75,7 @@ fn pass_bytes(service: Service, piece: &[u8], from: usize, state: State) -> Stop
 {
     let mut held = state;
     let mut at = from;
+    // Stays: it goes from stop to stop, and not from byte to byte.
     while at < piece.len() {
         let next = machine::step(service, held, piece[at]);
         if is_stop(next) {
@@ -103,83 +89,19 @@ fn pass_bytes(service: Service, piece: &[u8], from: usize, state: State) -> Stop
 }
 
 // Most segments lie within a piece.
+#[tactic(auto, using(crate::proofs::Passing::stopping_found))]
 fn next_stop(service: Service, piece: &[u8], from: usize, state: State) -> Stop
     ensures { result ≡ pass_on service state from (drop from piece.now) }
 {
-    if progress::is_start(state) {
-        let end = segment::find_end(service, piece, from);
-        if end < piece.len() {
-            return Stop {
-                state: State::Start,
-                at: end,
-            };
-        }
+    if progress::is_start(state)
+        && let Some(end) = segment::find_end(service, piece, from)
+    {
+        return Stop {
+            state: State::Start,
+            at: end,
+        };
     }
     pass_bytes(service, piece, from, state)
-}
-
-// Is the start of the segment that ends to be told, in a table that has no entry for it?
-fn lacks_entry(segments: usize, room: usize) -> bool
-    ensures { result ≡ lacks segments room }
-{
-    if segments < LIMIT_SEGMENTS {
-        return room <= segments;
-    }
-    false
-}
-
-// The start of the segment that ends goes into the table, if it is among the first 999,999 and fits.
-fn put_start(starts: &mut [u32], segments: usize, start: usize)
-    ensures { starts.new ≡ with_start segments start starts.old }
-{
-    if segments < LIMIT_SEGMENTS {
-        slices::put(starts, segments, slices::entry_of(start));
-    }
-}
-
-// A segment has ended, in front of this offset.
-fn end_segment(progress: Progress, room: usize, behind: usize) -> Progress
-    ensures { result ≡ segment_ended progress room behind }
-{
-    Progress {
-        ended: progress.ended,
-        state: State::Start,
-        bytes: behind,
-        bad: progress.bad,
-        segments: progress::one_more(progress.segments),
-        start: behind,
-        lacking: progress.lacking | lacks_entry(progress.segments, room),
-    }
-}
-
-// The machine has failed, at an offset or before, and so many bytes have come.
-fn fail_at(progress: Progress, at: usize, bytes: usize) -> Progress
-    ensures { result ≡ failed_at progress at bytes }
-{
-    Progress {
-        ended: progress.ended,
-        state: State::Dead,
-        bytes,
-        bad: progress::first_bad(progress, at),
-        segments: progress.segments,
-        start: progress.start,
-        lacking: progress.lacking,
-    }
-}
-
-// So many bytes have come, and a segment goes on.
-fn go_on(progress: Progress, state: State, bytes: usize) -> Progress
-    ensures { result ≡ gone_on progress state bytes }
-{
-    Progress {
-        ended: progress.ended,
-        state,
-        bytes,
-        bad: progress.bad,
-        segments: progress.segments,
-        start: progress.start,
-        lacking: progress.lacking,
-    }
 }
 
 // A piece, or the part of it, that lies within the bytes that are judged.
@@ -190,19 +112,18 @@ fn read_within(service: Service, progress: Progress, piece: &[u8], starts: &mut 
 {
     let before = progress.bytes;
     let mut come = progress;
-    let mut at: usize = 0;
+    let mut at = 0;
+    // Stays: it goes from segment to segment, and not from byte to byte.
     while at < piece.len() {
-        let state = come.state;
-        let stop = next_stop(service, piece, at, state);
-        let next = stop.state;
+        let stop = next_stop(service, piece, at, come.state);
         if piece.len() <= stop.at {
-            return go_on(come, next, before + piece.len());
+            return come.go_on(stop.state, before + piece.len());
         }
-        if machine::is_dead(next) {
-            return fail_at(come, before + stop.at, before + piece.len());
+        if machine::is_dead(stop.state) {
+            return come.fail_at(before + stop.at, before + piece.len());
         }
-        put_start(starts, come.segments, come.start);
-        come = end_segment(come, starts.len(), before + stop.at + 1);
+        come.put_start(starts);
+        come = come.end_segment(starts.len(), before + stop.at + 1);
         at = stop.at + 1;
     }
     come
@@ -213,15 +134,13 @@ pub fn read_on(service: Service, progress: Progress, piece: &[u8], starts: &mut 
     ensures { (result ≡ (held_after service (held progress starts.old) piece.now).progress)
         × (starts.new ≡ (held_after service (held progress starts.old) piece.now).starts) }
 {
-    let bytes = progress.bytes;
-    if LIMIT_BYTES < bytes {
+    if LIMIT_BYTES < progress.bytes {
         return progress;
     }
-    let left = LIMIT_BYTES - bytes;
+    let left = LIMIT_BYTES - progress.bytes;
     if piece.len() <= left {
         return read_within(service, progress, piece, starts);
     }
-    let within = read_within(service, progress, &piece[0..left], starts);
-    let state = within.state;
-    go_on(within, state, LIMIT_BYTES + 1)
+    let within = read_within(service, progress, &piece[..left], starts);
+    within.go_on(within.state, LIMIT_BYTES + 1)
 }

@@ -8,23 +8,23 @@ use mathlib.Core.List.{List}
 use mathlib.Core.Bool.{Bool, true, false, cond, not, ◌&&◌, and-false}
 use mathlib.Core.Logic.{dite}
 use lib.Dec.{eqb, ltb}
-use lib.ListN.{length, get_or, set}
-use lib.Seq.{get_or-set_same, get_or-set_other}
-use borrow.Author.Tests.{eq-eqb, ne_eqb, eqb-true, eqb-false, lt-ltb, le-ltb, ltb-true, ltb-false}
+use lib.ListN.{length, get_or}
+use borrow.Author.Tests.{eq-eqb, ne_eqb, eqb-true, eqb-false, ltb-true, ltb-false}
 use Rattle.guide.specs.meaning.Words.{group_kind}
 use Rattle.guide.specs.meaning.Guide.{Guide}
 use Rattle.reading.specs.method.Machine.{seek_from}
 use Rattle.reading.specs.method.Part.{bytes_in}
 use Rattle.reading.specs.method.Tag.{tag_at}
 use Rattle.reading.specs.declared.service.Service.{Service}
-use Rattle.reading.specs.declared.span.Span.{Span}
 use Rattle.reading.proofs.Seeking.{Inside, seek_inside}
 use Rattle.placing.specs.meaning.Fitting.{least}
 use Rattle.placing.specs.method.Fitting.{is_selected_at, fits_at, home_at}
 use Rattle.guide.specs.method.Codes.{is_any_code}
 use Rattle.guide.specs.meaning.Plan.{plan_of}
 use Rattle.placing.specs.method.Walking.{SegmentLine}
-use Rattle.placing.specs.method.Kept.{Looked, home_tag, tabled_end, TagsOf, first_of_tag}
+use Rattle.std.specs.Prelude.{Some, None}
+use Rattle.std.proofs.lemmas.Option.{none-some, same_Some}
+use Rattle.placing.specs.method.Kept.{Looked, selected_of, home_tag, tabled_end, TagsOf, first_of_tag}
 use Rattle.placing.specs.declared.home.Selected.{Selected}
 use Rattle.reading.proofs.Booleans.{left, right, denied}
 use Rattle.reading.proofs.Starts.{none_left, one_less}
@@ -33,30 +33,51 @@ module _ (b : Guide) where
   -- ---- one line
 
   module _ (s : Service) (bs : List ℕ) (at l : ℕ) where
-    pub no_selector : (e : ℕ) → e ≡ b.selector_element l → e ≡ 0 → true ≡ is_selected_at s b bs at l
-    unfolding is_selected_at
-    no_selector e h z = sym (simp (eq-eqb (b.selector_element l) 0 (sym h ∙ z)))
+    -- the component that the selector names, where there is one
+    abbrev component : Selected
+    component =
+        record {
+          element = b.selector_element l;
+          component = b.selector_component l;
+          span = seek_from s bs (at + 3) (b.selector_element l) (b.selector_component l);
+        }
 
-    module _ (x : Selected) (look : Looked s bs at x) (he : x.element ≡ b.selector_element l) (hc : x.component ≡ b.selector_component l) (n : x.element ≡ 0 → ⊥) where
+    named : (x : Selected) → Some x ≡ selected_of s b bs at l → (eqb (b.selector_element l) 0 ≡ false) × (x ≡ component)
+    named x h = go (eqb (b.selector_element l) 0) refl h
+      where
+        go : (v : Bool) → eqb (b.selector_element l) 0 ≡ v → Some x ≡ cond v None (Some component) → (eqb (b.selector_element l) 0 ≡ false) × (x ≡ component)
+        go true e i = absurd (none-some x (sym i))
+        go false e i = (e, same_Some x component i)
+
+    pub no_selector : eqb (b.selector_element l) 0 ≡ true → true ≡ is_selected_at s b bs at l
+    unfolding is_selected_at
+    no_selector e = sym (simp e)
+
+    pub all_selected : None ≡ selected_of s b bs at l → true ≡ is_selected_at s b bs at l
+    all_selected h = go (eqb (b.selector_element l) 0) refl h
+      where
+        go : (v : Bool) → eqb (b.selector_element l) 0 ≡ v → None ≡ cond v None (Some component) → true ≡ is_selected_at s b bs at l
+        go true e i = no_selector e
+        go false e i = absurd (none-some component i)
+
+    module _ (x : Selected) (h : Some x ≡ selected_of s b bs at l) where
       pub selected : (first count : ℕ) (r : Bool) → first ≡ b.first_code l → count ≡ b.code_count l → r ≡ is_any_code b first count (bytes_in x.span bs) → r ≡ is_selected_at s b bs at l
       unfolding is_selected_at
       selected first count r hf hk hr =
           hr ∙ ap₂ (λ (y z : ℕ). is_any_code b y z (bytes_in x.span bs)) hf hk
-          ∙ ap (λ (y : Span). is_any_code b (b.first_code l) (b.code_count l) (bytes_in y bs)) (look.lies n)
-          ∙ ap₂ (λ (y z : ℕ). is_any_code b (b.first_code l) (b.code_count l) (bytes_in (seek_from s bs (at + 3) y z) bs)) he hc
-          ∙ sym (simp (ne_eqb (b.selector_element l) 0 (λ z. n (he ∙ z))))
+          ∙ ap (λ (y : Selected). is_any_code b (b.first_code l) (b.code_count l) (bytes_in y.span bs)) (named x h).1
+          ∙ sym (simp (named x h).0)
 
       -- it lies within the message
       pub lies_inside : at + 3 ≤ length bs → Inside (length bs) x.span
-      lies_inside h = subst (Inside (length bs)) (sym (look.lies n)) (seek_inside s bs (at + 3) x.element x.component h)
+      lies_inside i = subst (λ (y : Selected). Inside (length bs) y.span) (sym (named x h).1) (seek_inside s bs (at + 3) (b.selector_element l) (b.selector_component l) i)
 
-  -- ---- the tag of a line
-
-  pub group_tag : (l k : ℕ) → k ≡ b.kind l → k ≡ 2 → 2 ^ 24 ≡ home_tag b l
-  group_tag l k e z = sym (simp (eq-eqb (b.kind l) group_kind (sym e ∙ z)))
-
-  pub line_tag : (l k t : ℕ) → k ≡ b.kind l → (k ≡ 2 → ⊥) → t ≡ b.tag l → t ≡ home_tag b l
-  line_tag l k t e n h = h ∙ sym (simp (ne_eqb (b.kind l) group_kind (λ z. n (e ∙ z))))
+    pub looked : Looked s bs at (selected_of s b bs at l)
+    looked = go (eqb (b.selector_element l) 0)
+      where
+        go : (v : Bool) → Looked s bs at (cond v None (Some component))
+        go true = tt
+        go false = refl
 
   -- a line fits that has the tag and is selected
   module _ (s : Service) (bs : List ℕ) (at t : ℕ) (tag : t ≡ tag_at bs at) (three : t < 2 ^ 24) where
@@ -129,24 +150,10 @@ least_is test l (suc n) = go (test l) refl (least test (suc l) n) (least_is test
     go false e x (found z a b c d) = found z (omega arith) (omega arith) c (λ y i j. here_or_later test l y i e (λ k. d y k j))
     go false e x (none f) = none (λ y i j. here_or_later test l y i e (λ k. f y k (omega arith)))
 
--- ---- the table of tags
-
--- one tag more
-pub tabled_on : (tag : ℕ → ℕ) (tags : List ℕ) (l x : ℕ) → l < length tags → x ≡ tag l → ((k : ℕ) → k < l → get_or tags k 0 ≡ tag k)
-    → (k : ℕ) → k < l + 1 → get_or (set tags l x) k 0 ≡ tag k
-tabled_on tag tags l x h e all k i =
-    dite (dec_lt k l)
-    (λ j. get_or-set_other tags l k x 0 (λ z. omega arith) ∙ all k j)
-    (λ j. let z : l ≡ k = omega arith in subst (λ (y : ℕ). get_or (set tags l x) y 0 ≡ tag y) z (get_or-set_same tags l x 0 h ∙ e))
+-- ---- the table of tags, and the home
 
 module _ (b : Guide) where
-  pub end_of_lines : (n : ℕ) → n ≡ b.lines → n < 257 → n + 1 ≡ tabled_end b
-  end_of_lines n e h = add-one n ∙ ap suc e ∙ sym (simp (lt-ltb b.lines 257 (omega arith)))
-
-  pub end_of_table : (n : ℕ) → n ≡ b.lines → 257 ≤ n → 257 ≡ tabled_end b
-  end_of_table n e h = sym (simp (le-ltb b.lines 257 (omega arith)))
-
-  pub end_within : (1 ≤ tabled_end b) × (tabled_end b ≤ 257) × (tabled_end b ≤ suc b.lines)
+  end_within : (1 ≤ tabled_end b) × (tabled_end b ≤ 257) × (tabled_end b ≤ suc b.lines)
   end_within = go (ltb b.lines 257) refl
     where
       go : (v : Bool) → ltb b.lines 257 ≡ v → (1 ≤ cond v (suc b.lines) 257) × (cond v (suc b.lines) 257 ≤ 257) × (cond v (suc b.lines) 257 ≤ suc b.lines)
@@ -155,50 +162,50 @@ module _ (b : Guide) where
 
   -- ---- the home: the lines before the first of its tag are passed over
 
-  module _ (s : Service) (bs : List ℕ) (at t : ℕ) (tag : t ≡ tag_at bs at) (three : t < 2 ^ 24) (end : ℕ) (tags : List ℕ) (all : TagsOf b end tags) where
-    passed : (l : ℕ) → l < end → eqb (get_or tags l 0) t ≡ false → fits_at s b bs at l ≡ false
+  module _ (s : Service) (bs : List ℕ) (at t : ℕ) (tag : t ≡ tag_at bs at) (three : t < 2 ^ 24) (tags : List ℕ) (all : TagsOf b tags) where
+    passed : (l : ℕ) → l < length tags → eqb (get_or tags l 0) t ≡ false → fits_at s b bs at l ≡ false
     passed l h n = fits_not b s bs at t tag three l (get_or tags l 0) (all.same l h) (eqb-false (get_or tags l 0) t n)
 
-    module _ (r : ℕ) (first : r ≡ first_of_tag tags end t) where
-      abbrev Shown : ℕ → Type 0
-      Shown x = Least (λ l. eqb (get_or tags l 0) t) 1 (end - 1) x
+    abbrev Shown : ℕ → Type 0
+    Shown x = Least (λ l. eqb (get_or tags l 0) t) 1 (length tags - 1) x
 
-      shown : Shown r
-      shown = subst Shown (sym first) (least_is (λ l. eqb (get_or tags l 0) t) 1 (end - 1))
+    shown : Shown (first_of_tag tags t)
+    shown = least_is (λ l. eqb (get_or tags l 0) t) 1 (length tags - 1)
 
-      pub home_past : r ≡ 0 → least (fits_at s b bs at) end (suc b.lines - end) ≡ home_at s b bs at
-      home_past z = go r z shown
+    pub home_past : first_of_tag tags t ≡ 0 → least (fits_at s b bs at) (length tags) (suc b.lines - length tags) ≡ home_at s b bs at
+    home_past z = go (first_of_tag tags t) z shown
+      where
+        go : (x : ℕ) → x ≡ 0 → Shown x → least (fits_at s b bs at) (length tags) (suc b.lines - length tags) ≡ home_at s b bs at
+        go x y (found l i j k f) = absurd (omega arith)
+        go x y (none f) = let w = end_within in first_past (fits_at s b bs at) b.lines (length tags) (omega (arith, w, all.ends)) (omega (arith, w, all.ends)) (λ l i j. passed l j (f l i (omega arith)))
+
+    module _ (r : ℕ) (first : r ≡ first_of_tag tags t) (some : 1 ≤ r) where
+      pub home_first : least (fits_at s b bs at) r (suc b.lines - r) ≡ home_at s b bs at
+      home_first = go r some (subst Shown (sym first) shown)
         where
-          go : (x : ℕ) → x ≡ 0 → Shown x → least (fits_at s b bs at) end (suc b.lines - end) ≡ home_at s b bs at
-          go x y (found l i j k f) = absurd (omega arith)
-          go x y (none f) = let w = end_within in first_past (fits_at s b bs at) b.lines end (omega (arith, w, all.ends)) (omega (arith, w, all.ends)) (λ l i j. passed l j (f l i (omega arith)))
-
-      pub home_first : (r ≡ 0 → ⊥) → least (fits_at s b bs at) r (suc b.lines - r) ≡ home_at s b bs at
-      home_first n = go r n shown
-        where
-          go : (x : ℕ) → (x ≡ 0 → ⊥) → Shown x → least (fits_at s b bs at) x (suc b.lines - x) ≡ home_at s b bs at
+          go : (x : ℕ) → 1 ≤ x → Shown x → least (fits_at s b bs at) x (suc b.lines - x) ≡ home_at s b bs at
           go x y (found z i j k f) = let w = end_within in first_past (fits_at s b bs at) b.lines x i (omega (arith, w, all.ends)) (λ l p q. passed l (omega arith) (f l p q))
-          go x y (none f) = absurd (y refl)
+          go x y (none f) = absurd (omega arith)
 
       -- without a selector that one is the home
-      pub home_here : (r ≡ 0 → ⊥) → (x : ℕ) → x ≡ b.selector_element r → x ≡ 0 → r ≡ home_at s b bs at
-      home_here n x h z = sym (go r n (no_selector b s bs at r x h z) shown) ∙ home_first n
+      pub home_here : (x : ℕ) → x ≡ b.selector_element r → x ≡ 0 → home_at s b bs at ≡ r
+      home_here x h z = sym home_first ∙ go r some (no_selector b s bs at r (eq-eqb (b.selector_element r) 0 (sym h ∙ z))) (subst Shown (sym first) shown)
         where
-          go : (y : ℕ) → (y ≡ 0 → ⊥) → true ≡ is_selected_at s b bs at y → Shown y → least (fits_at s b bs at) y (suc b.lines - y) ≡ y
+          go : (y : ℕ) → 1 ≤ y → true ≡ is_selected_at s b bs at y → Shown y → least (fits_at s b bs at) y (suc b.lines - y) ≡ y
           go y m q (found z i j k f) =
               let w = end_within in
               least_here (fits_at s b bs at) (suc b.lines) y (omega (arith, w, all.ends))
               (fits_selected b s bs at t tag three y (get_or tags y 0) true (all.same y (omega arith)) (eqb-true (get_or tags y 0) t k) q)
-          go y m q (none f) = absurd (m refl)
+          go y m q (none f) = absurd (omega arith)
 
   no_group : (s : Service) (bs : List ℕ) (at l : ℕ) → fits_at s b bs at l ≡ true → eqb (b.kind l) group_kind ≡ false
   unfolding fits_at
   no_group s bs at l k = denied (eqb (b.kind l) group_kind) (left (not (eqb (b.kind l) group_kind)) _ (right (eqb (b.tag l) (tag_at bs at)) _ k))
 
   -- a home is a segment line of the book
-  pub home_line : (s : Service) (bs : List ℕ) (at h : ℕ) → h ≡ home_at s b bs at → (h ≡ 0 → ⊥) → SegmentLine (plan_of b) h
+  pub home_line : (s : Service) (bs : List ℕ) (at h : ℕ) → h ≡ home_at s b bs at → 1 ≤ h → SegmentLine (plan_of b) h
   home_line s bs at h e n = go h n (subst (Least (fits_at s b bs at) 1 b.lines) (sym e) (least_is (fits_at s b bs at) 1 b.lines))
     where
-      go : (x : ℕ) → (x ≡ 0 → ⊥) → Least (fits_at s b bs at) 1 b.lines x → SegmentLine (plan_of b) x
+      go : (x : ℕ) → 1 ≤ x → Least (fits_at s b bs at) 1 b.lines x → SegmentLine (plan_of b) x
       go x m (found y i j k f) = record { some = i; within = omega arith; segment = no_group s bs at x k }
-      go x m (none f) = absurd (m refl)
+      go x m (none f) = absurd (omega arith)

@@ -7,25 +7,25 @@ use mathlib.Core.List.{List, [], ◌∷◌, ◌++◌, map}
 use mathlib.Core.Bool.{Bool, cond}
 use lib.Dec.{eqb}
 use lib.ListN.{length, set, drop}
-use lib.Seq.{sets, sets-eq, length-sets}
+use lib.Seq.{sets, sets-eq}
 use borrow.Author.Tests.{eq-eqb, ne_eqb}
 use Rattle.guide.specs.meaning.Guide.{guide_of}
 use Rattle.reading.specs.method.Machine.{next_segment}
 use Rattle.reading.specs.declared.service.Service.{Service}
 use Rattle.reading.specs.declared.span.Span.{Span}
 use Rattle.reading.specs.declared.cursor.Cursor.{Cursor}
-use Rattle.reading.specs.declared.cursor.Found.TheVariants as found
 use Rattle.reading.proofs.Starts.{starts_found, no_starts, starts_end}
-use Rattle.guide.specs.meaning.Plan.{Plan, plan_in}
+use Rattle.guide.specs.meaning.Plan.{plan_in}
 use Rattle.placing.specs.method.Fitting.{home_at}
-use Rattle.placing.specs.method.Walking.{start, walked, is_alive, StandsFor}
-use Rattle.placing.specs.method.Tree.{root_only, parent_in, opened_by, noted, noted_parents}
+use Rattle.placing.specs.method.Walking.{start, walked, advanced, is_alive}
+use Rattle.placing.specs.method.Tree.{root_only, parent_in, opened_by, noted}
 use Rattle.slices.specs.method.Entries.{entry}
 use Rattle.reading.specs.method.Starts.{starts_from, starts_table}
 use Rattle.placing.specs.method.Passes.{homes_from, first_stop, outcome_of, tested_from, tested, homes_table, parents_table}
-use Rattle.placing.specs.declared.walk.Walk.{Walk}
-use Rattle.placing.specs.declared.passes.Placing.{Placing}
-use Rattle.placing.specs.declared.passes.Placing.TheVariants.{NoHome}
+use Rattle.placing.specs.declared.walk.Level.{Level}
+use Rattle.placing.specs.declared.passes.Unplaced.{Unplaced}
+use Rattle.placing.specs.declared.passes.Unplaced.TheVariants.{NoHome}
+use Rattle.std.specs.Prelude.{⊤, Option, Some, None, Result, Err}
 
 -- so many entries, and what was there behind them
 pub filled : (xs table : List ℕ) (n : ℕ) → length xs ≡ n → n ≤ length table → sets table 0 xs ≡ xs ++ drop n table
@@ -34,7 +34,7 @@ filled xs table n e h = let all : 0 + length xs ≡ n = omega arith in sets-eq x
 module _ (s : Service) (bs book : List ℕ) where
   -- ---- the segments that are left, where k of n have been passed
 
-  homes_found : (k n at : ℕ) (x : Span) (next : Cursor) → k < n → found.Segment x next ≡ next_segment s bs at
+  homes_found : (k n at : ℕ) (x : Span) (next : Cursor) → k < n → Some (x, next) ≡ next_segment s bs at
       → homes_from s bs book (n - k) at ≡ home_at s (guide_of book) bs at ∷ homes_from s bs book (n - (k + 1)) next.at
   homes_found k n at x next h e = ap (map (home_at s (guide_of book) bs)) (starts_found s bs k n at x next h e)
 
@@ -43,59 +43,69 @@ module _ (s : Service) (bs book : List ℕ) where
   abbrev alive : List ℕ → Bool
   alive hs = is_alive (walked (plan_in book) start hs)
 
-  tested_next : (seen : List ℕ) (stop k h : ℕ) (hs : List ℕ) → tested_from (plan_in book) seen stop k (h ∷ hs)
-      ≡ cond (eqb h 0) (NoHome (k + 1)) (tested_from (plan_in book) (seen ++ (h ∷ [])) (first_stop stop (alive (seen ++ (h ∷ []))) (k + 1)) (k + 1) hs)
+  tested_next : (seen : List ℕ) (stop : Option ℕ) (k h : ℕ) (hs : List ℕ) → tested_from (plan_in book) seen stop k (h ∷ hs)
+      ≡ cond (eqb h 0) (Err (NoHome (k + 1))) (tested_from (plan_in book) (seen ++ (h ∷ [])) (first_stop stop (alive (seen ++ (h ∷ []))) (k + 1)) (k + 1) hs)
   unfolding tested_from
   tested_next seen stop k h hs =
-      ap (λ (n : ℕ). cond (eqb h 0) (NoHome n) (tested_from (plan_in book) (seen ++ (h ∷ [])) (first_stop stop (alive (seen ++ (h ∷ []))) n) n hs)) (sym (add-one k))
+      ap (λ (n : ℕ). cond (eqb h 0) (Err (NoHome n)) (tested_from (plan_in book) (seen ++ (h ∷ [])) (first_stop stop (alive (seen ++ (h ∷ []))) n) n hs)) (sym (add-one k))
 
-  tested_nil : (seen : List ℕ) (stop k : ℕ) → tested_from (plan_in book) seen stop k [] ≡ outcome_of stop
+  tested_nil : (seen : List ℕ) (stop : Option ℕ) (k : ℕ) → tested_from (plan_in book) seen stop k [] ≡ outcome_of stop
   unfolding tested_from
   tested_nil seen stop k = refl
 
+  walked_last : (vs : List Level) (xs : List ℕ) (h : ℕ) → walked (plan_in book) vs (xs ++ (h ∷ [])) ≡ advanced (plan_in book) (walked (plan_in book) vs xs) h
+  unfolding walked
+  walked_last vs [] h = refl
+  walked_last vs (x ∷ xs) h = walked_last (advanced (plan_in book) vs x) xs h
+
+  walked_none : walked (plan_in book) start [] ≡ start
+  unfolding walked
+  walked_none = refl
+
   -- what the test answers from here on
-  abbrev From : List ℕ → ℕ → ℕ → ℕ → ℕ → Placing
+  abbrev From : List ℕ → Option ℕ → ℕ → ℕ → ℕ → Result ⊤ Unplaced
   From seen stop k n at = tested_from (plan_in book) seen stop k (homes_from s bs book (n - k) at)
 
-  -- the walk stands for the homes seen, and what is found from here on is what is found in all
-  pub record Testing (n : ℕ) (walk : Walk) (stop k at : ℕ) : Type 0 where
+  -- the walk has come through the homes seen, and what is found from here on is what is found in all
+  pub record Testing (n : ℕ) (vs : List Level) (stop : Option ℕ) (k at : ℕ) : Type 0 where
     pub seen : List ℕ
-    pub stands : StandsFor (plan_in book) seen walk
+    pub stands : vs ≡ walked (plan_in book) start seen
     pub same : From seen stop k n at ≡ tested (plan_in book) (homes_from s bs book n 0)
 
-  pub test_begin : (n : ℕ) (walk : Walk) (at : ℕ) → StandsFor (plan_in book) [] walk → at ≡ 0 → Testing n walk 0 0 at
-  test_begin n walk at i z =
+  pub test_begin : (n : ℕ) (vs : List Level) (at : ℕ) → vs ≡ start → at ≡ 0 → Testing n vs None 0 at
+  test_begin n vs at i z =
       let nought : n - 0 ≡ n = omega arith in
-      record { seen = []; stands = i; same = ap₂ (λ (m y : ℕ). tested_from (plan_in book) [] 0 0 (homes_from s bs book m y)) nought z }
+      record { seen = []; stands = i ∙ sym walked_none; same = ap₂ (λ (m y : ℕ). tested_from (plan_in book) [] None 0 (homes_from s bs book m y)) nought z }
 
-  module _ (n : ℕ) (walk : Walk) (stop k at : ℕ) (t : Testing n walk stop k at) where
-    module _ (x : Span) (next : Cursor) (h : ℕ) (within : k < n) (e : found.Segment x next ≡ next_segment s bs at) (here : h ≡ home_at s (guide_of book) bs at) where
+  module _ (n : ℕ) (vs : List Level) (stop : Option ℕ) (k at : ℕ) (t : Testing n vs stop k at) where
+    module _ (x : Span) (next : Cursor) (h : ℕ) (within : k < n) (e : Some (x, next) ≡ next_segment s bs at) (here : h ≡ home_at s (guide_of book) bs at) where
       turn : From t.seen stop k n at
-          ≡ cond (eqb h 0) (NoHome (k + 1)) (From (t.seen ++ (h ∷ [])) (first_stop stop (alive (t.seen ++ (h ∷ []))) (k + 1)) (k + 1) n next.at)
+          ≡ cond (eqb h 0) (Err (NoHome (k + 1))) (From (t.seen ++ (h ∷ [])) (first_stop stop (alive (t.seen ++ (h ∷ []))) (k + 1)) (k + 1) n next.at)
       turn =
           ap (tested_from (plan_in book) t.seen stop k) (homes_found k n at x next within e)
           ∙ tested_next t.seen stop k (home_at s (guide_of book) bs at) (homes_from s bs book (n - (k + 1)) next.at)
-          ∙ ap (λ (y : ℕ). cond (eqb y 0) (NoHome (k + 1)) (From (t.seen ++ (y ∷ [])) (first_stop stop (alive (t.seen ++ (y ∷ []))) (k + 1)) (k + 1) n next.at)) (sym here)
+          ∙ ap (λ (y : ℕ). cond (eqb y 0) (Err (NoHome (k + 1))) (From (t.seen ++ (y ∷ [])) (first_stop stop (alive (t.seen ++ (y ∷ []))) (k + 1)) (k + 1) n next.at)) (sym here)
 
-      pub test_homeless : h ≡ 0 → NoHome (k + 1) ≡ tested (plan_in book) (homes_from s bs book n 0)
+      pub test_homeless : h ≡ 0 → Err (NoHome (k + 1)) ≡ tested (plan_in book) (homes_from s bs book n 0)
       test_homeless z = sym (turn ∙ simp (eq-eqb h 0 z)) ∙ t.same
 
-      pub test_on : (moved : Walk) (then : ℕ) (live : Bool) → (h ≡ 0 → ⊥) → ((hs : List ℕ) → StandsFor (plan_in book) hs walk → StandsFor (plan_in book) (hs ++ (h ∷ [])) moved)
-          → ((b : Plan) (hs : List ℕ) → StandsFor b hs moved → live ≡ is_alive (walked b start hs)) → then ≡ first_stop stop live (k + 1) → Testing n moved then (k + 1) next.at
-      test_on moved then live z on l f =
-          let stands = on t.seen t.stands in
+      pub test_on : (moved : List Level) (then : Option ℕ) (live : Bool) → 1 ≤ h → moved ≡ advanced (plan_in book) vs h → live ≡ is_alive moved
+          → then ≡ first_stop stop live (k + 1) → Testing n moved then (k + 1) next.at
+      test_on moved then live z m l f =
+          let stands : moved ≡ walked (plan_in book) start (t.seen ++ (h ∷ [])) =
+          m ∙ ap (λ (us : List Level). advanced (plan_in book) us h) t.stands ∙ sym (walked_last start t.seen h) in
           record {
             seen = t.seen ++ (h ∷ []);
             stands = stands;
             same =
-                ap (λ (y : ℕ). From (t.seen ++ (h ∷ [])) y (k + 1) n next.at) (f ∙ ap (λ (y : Bool). first_stop stop y (k + 1)) (l (plan_in book) (t.seen ++ (h ∷ [])) stands))
-                ∙ sym (turn ∙ simp (ne_eqb h 0 z)) ∙ t.same;
+                ap (λ (y : Option ℕ). From (t.seen ++ (h ∷ [])) y (k + 1) n next.at) (f ∙ ap (λ (y : Bool). first_stop stop y (k + 1)) (l ∙ ap is_alive stands))
+                ∙ sym (turn ∙ simp (ne_eqb h 0 (λ y. omega arith))) ∙ t.same;
           }
 
     none_left_to_test : starts_from s bs (n - k) at ≡ [] → outcome_of stop ≡ tested (plan_in book) (homes_from s bs book n 0)
     none_left_to_test e = sym (ap (λ (ys : List ℕ). tested_from (plan_in book) t.seen stop k (map (home_at s (guide_of book) bs) ys)) e ∙ tested_nil t.seen stop k) ∙ t.same
 
-    pub test_nothing : found.Nothing ≡ next_segment s bs at → outcome_of stop ≡ tested (plan_in book) (homes_from s bs book n 0)
+    pub test_nothing : None ≡ next_segment s bs at → outcome_of stop ≡ tested (plan_in book) (homes_from s bs book n 0)
     test_nothing e = none_left_to_test (no_starts s bs (n - k) at e)
 
     pub test_end : n ≤ k → outcome_of stop ≡ tested (plan_in book) (homes_from s bs book n 0)
@@ -104,15 +114,13 @@ module _ (s : Service) (bs book : List ℕ) where
   -- ---- the tables
 
   -- what is still to be written, where k entries stand and n are wanted, leads to the whole tables
-  pub record Writing (n : ℕ) (starts₀ homes₀ parents₀ starts homes parents : List ℕ) (at : ℕ) (trail : List ℕ) (k last : ℕ) : Type 0 where
-    pub starts_left : sets starts k (map entry (starts_from s bs (last - k) at)) ≡ starts_table s bs n starts₀
-    pub homes_left : sets homes k (homes_from s bs book (last - k) at) ≡ homes_table s bs book n homes₀
-    pub parents_left : sets parents k (noted (plan_in book) k trail (homes_from s bs book (last - k) at)) ≡ parents_table s bs book n parents₀
-    pub eight : length trail ≡ 8
-    pub within : last ≤ n
+  pub record Writing (n : ℕ) (starts₀ homes₀ parents₀ starts homes parents : List ℕ) (at : ℕ) (trail : List ℕ) (k : ℕ) : Type 0 where
+    pub starts_left : sets starts k (map entry (starts_from s bs (n - k) at)) ≡ starts_table s bs n starts₀
+    pub homes_left : sets homes k (homes_from s bs book (n - k) at) ≡ homes_table s bs book n homes₀
+    pub parents_left : sets parents k (noted (plan_in book) k trail (homes_from s bs book (n - k) at)) ≡ parents_table s bs book n parents₀
 
   pub write_begin : (n : ℕ) (starts homes parents : List ℕ) (at : ℕ) (trail : List ℕ) → at ≡ 0 → trail ≡ root_only
-      → Writing n starts homes parents starts homes parents at trail 0 n
+      → Writing n starts homes parents starts homes parents at trail 0
   write_begin n starts homes parents at trail z e =
       let nought : n - 0 ≡ n = omega arith in
       record {
@@ -121,8 +129,6 @@ module _ (s : Service) (bs book : List ℕ) where
         parents_left =
             ap (λ (t : List ℕ). sets parents 0 (noted (plan_in book) 0 t (homes_from s bs book (n - 0) at))) e
             ∙ ap₂ (λ (m y : ℕ). sets parents 0 (noted (plan_in book) 0 root_only (homes_from s bs book m y))) nought z;
-        eight = ap length e;
-        within = omega arith;
       }
 
   -- one entry more
@@ -133,71 +139,48 @@ module _ (s : Service) (bs book : List ℕ) where
   unfolding noted
   noted_next k h trail hs = ap (λ (n : ℕ). parent_in (plan_in book) trail h ∷ noted (plan_in book) n (opened_by (plan_in book) trail h n) hs) (sym (add-one k))
 
-  module _ (n : ℕ) (starts₀ homes₀ parents₀ starts homes parents : List ℕ) (at : ℕ) (trail : List ℕ) (k last : ℕ) (w : Writing n starts₀ homes₀ parents₀ starts homes parents at trail k last) where
-    pub write_on : (x : Span) (next : Cursor) (i h p : ℕ) (starts₁ homes₁ parents₁ opened : List ℕ) → k < last → found.Segment x next ≡ next_segment s bs at
+  module _ (n : ℕ) (starts₀ homes₀ parents₀ starts homes parents : List ℕ) (at : ℕ) (trail : List ℕ) (k : ℕ) (w : Writing n starts₀ homes₀ parents₀ starts homes parents at trail k) where
+    pub write_on : (x : Span) (next : Cursor) (i h p : ℕ) (starts₁ homes₁ parents₁ opened : List ℕ) → k < n → Some (x, next) ≡ next_segment s bs at
         → i ≡ entry at → h ≡ home_at s (guide_of book) bs at → p ≡ parent_in (plan_in book) trail h
         → starts₁ ≡ set starts k i → homes₁ ≡ set homes k h → parents₁ ≡ set parents k p
-        → opened ≡ opened_by (plan_in book) trail h (k + 1) → length opened ≡ 8
-        → Writing n starts₀ homes₀ parents₀ starts₁ homes₁ parents₁ next.at opened (k + 1) last
-    write_on x next i h p starts₁ homes₁ parents₁ opened less e hi hh hp ds dh dp ho l =
+        → opened ≡ opened_by (plan_in book) trail h (k + 1)
+        → Writing n starts₀ homes₀ parents₀ starts₁ homes₁ parents₁ next.at opened (k + 1)
+    write_on x next i h p starts₁ homes₁ parents₁ opened less e hi hh hp ds dh dp ho =
         record {
           starts_left =
-              ap (λ (t : List ℕ). sets t (k + 1) (map entry (starts_from s bs (last - (k + 1)) next.at))) (ds ∙ ap (set starts k) hi)
-              ∙ put_next starts (map entry (starts_from s bs (last - (k + 1)) next.at)) k (entry at)
-              ∙ ap (λ (ys : List ℕ). sets starts k (map entry ys)) (sym (starts_found s bs k last at x next less e)) ∙ w.starts_left;
+              ap (λ (t : List ℕ). sets t (k + 1) (map entry (starts_from s bs (n - (k + 1)) next.at))) (ds ∙ ap (set starts k) hi)
+              ∙ put_next starts (map entry (starts_from s bs (n - (k + 1)) next.at)) k (entry at)
+              ∙ ap (λ (ys : List ℕ). sets starts k (map entry ys)) (sym (starts_found s bs k n at x next less e)) ∙ w.starts_left;
           homes_left =
-              ap (λ (t : List ℕ). sets t (k + 1) (homes_from s bs book (last - (k + 1)) next.at)) dh
-              ∙ put_next homes (homes_from s bs book (last - (k + 1)) next.at) k h ∙ ap (sets homes k) left ∙ w.homes_left;
+              ap (λ (t : List ℕ). sets t (k + 1) (homes_from s bs book (n - (k + 1)) next.at)) dh
+              ∙ put_next homes (homes_from s bs book (n - (k + 1)) next.at) k h ∙ ap (sets homes k) left ∙ w.homes_left;
           parents_left =
-              ap (λ (t : List ℕ). sets t (k + 1) (noted (plan_in book) (k + 1) opened (homes_from s bs book (last - (k + 1)) next.at))) (dp ∙ ap (set parents k) hp)
-              ∙ put_next parents (noted (plan_in book) (k + 1) opened (homes_from s bs book (last - (k + 1)) next.at)) k (parent_in (plan_in book) trail h)
-              ∙ ap (λ (t : List ℕ). sets parents k (parent_in (plan_in book) trail h ∷ noted (plan_in book) (k + 1) t (homes_from s bs book (last - (k + 1)) next.at))) ho
-              ∙ ap (sets parents k) (sym (noted_next k h trail (homes_from s bs book (last - (k + 1)) next.at)) ∙ ap (noted (plan_in book) k trail) left) ∙ w.parents_left;
-          eight = l;
-          within = w.within;
+              ap (λ (t : List ℕ). sets t (k + 1) (noted (plan_in book) (k + 1) opened (homes_from s bs book (n - (k + 1)) next.at))) (dp ∙ ap (set parents k) hp)
+              ∙ put_next parents (noted (plan_in book) (k + 1) opened (homes_from s bs book (n - (k + 1)) next.at)) k (parent_in (plan_in book) trail h)
+              ∙ ap (λ (t : List ℕ). sets parents k (parent_in (plan_in book) trail h ∷ noted (plan_in book) (k + 1) t (homes_from s bs book (n - (k + 1)) next.at))) ho
+              ∙ ap (sets parents k) (sym (noted_next k h trail (homes_from s bs book (n - (k + 1)) next.at)) ∙ ap (noted (plan_in book) k trail) left) ∙ w.parents_left;
         }
       where
-        left : h ∷ homes_from s bs book (last - (k + 1)) next.at ≡ homes_from s bs book (last - k) at
-        left = ap (λ (y : ℕ). y ∷ homes_from s bs book (last - (k + 1)) next.at) hh ∙ sym (homes_found k last at x next less e)
-
-    pub write_last : found.Nothing ≡ next_segment s bs at → k < last → Writing n starts₀ homes₀ parents₀ starts homes parents at trail k k
-    write_last e less =
-        record {
-          starts_left = ap (λ (ys : List ℕ). sets starts k (map entry ys)) ended ∙ w.starts_left;
-          homes_left = ap (λ (ys : List ℕ). sets homes k (map (home_at s (guide_of book) bs) ys)) ended ∙ w.homes_left;
-          parents_left = ap (λ (ys : List ℕ). sets parents k (noted (plan_in book) k trail (map (home_at s (guide_of book) bs) ys))) ended ∙ w.parents_left;
-          eight = w.eight;
-          within = let y = w.within in omega arith;
-        }
-      where
-        ended : starts_from s bs (k - k) at ≡ starts_from s bs (last - k) at
-        ended = starts_end s bs k k at (omega arith) ∙ sym (no_starts s bs (last - k) at e)
+        left : h ∷ homes_from s bs book (n - (k + 1)) next.at ≡ homes_from s bs book (n - k) at
+        left = ap (λ (y : ℕ). y ∷ homes_from s bs book (n - (k + 1)) next.at) hh ∙ sym (homes_found k n at x next less e)
 
     -- nothing is left
-    pub write_end : last ≤ k → (starts ≡ starts_table s bs n starts₀) × (homes ≡ homes_table s bs book n homes₀) × (parents ≡ parents_table s bs book n parents₀)
+    abbrev pub Written : Type 0
+    Written = (starts ≡ starts_table s bs n starts₀) × (homes ≡ homes_table s bs book n homes₀) × (parents ≡ parents_table s bs book n parents₀)
+
+    none_left_to_write : starts_from s bs (n - k) at ≡ [] → Written
     unfolding noted
-    write_end h = (
+    none_left_to_write done = (
       ap (λ (ys : List ℕ). sets starts k (map entry ys)) (sym done) ∙ w.starts_left,
       ap (λ (ys : List ℕ). sets homes k (map (home_at s (guide_of book) bs) ys)) (sym done) ∙ w.homes_left,
       ap (sets parents k) (sym noted-nil ∙ ap (λ (ys : List ℕ). noted (plan_in book) k trail (map (home_at s (guide_of book) bs) ys)) (sym done)) ∙ w.parents_left,
     )
       where
-        done : starts_from s bs (last - k) at ≡ []
-        done = starts_end s bs k last at h
-
         noted-nil : noted (plan_in book) k trail [] ≡ []
         noted-nil = refl
 
-    -- no table grows or shrinks
-    long : (table table₀ xs ys : List ℕ) (j : ℕ) → sets table k xs ≡ sets table₀ j ys → length table ≡ length table₀
-    long table table₀ xs ys j e = sym (length-sets table k xs) ∙ ap length e ∙ length-sets table₀ j ys
+    pub write_nothing : None ≡ next_segment s bs at → Written
+    write_nothing e = none_left_to_write (no_starts s bs (n - k) at e)
 
-    pub starts_long : length starts ≡ length starts₀
-    starts_long = long starts starts₀ (map entry (starts_from s bs (last - k) at)) (map entry (starts_from s bs n 0)) 0 w.starts_left
-
-    pub homes_long : length homes ≡ length homes₀
-    homes_long = long homes homes₀ (homes_from s bs book (last - k) at) (homes_from s bs book n 0) 0 w.homes_left
-
-    pub parents_long : length parents ≡ length parents₀
-    parents_long =
-        long parents parents₀ (noted (plan_in book) k trail (homes_from s bs book (last - k) at)) (noted_parents (plan_in book) (homes_from s bs book n 0)) 0 w.parents_left
+    pub write_end : n ≤ k → Written
+    write_end h = none_left_to_write (starts_end s bs k n at h)

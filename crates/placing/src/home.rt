@@ -1,18 +1,19 @@
 // A segment's home: the least line that it fits. Every line is tried; only this file knows that.
-ghost use Rattle.std.specs.Prelude.{◌≡◌, suc, ◌+◌, ◌-◌, ◌≤◌, ◌<◌, ◌^◌, length};
+ghost use Rattle.std.specs.Prelude.{◌≡◌, suc, ◌+◌, ◌-◌, ◌≤◌, ◌<◌, ◌^◌, length, IfSome};
 ghost use Rattle.reading.specs.method.Tag.{tag_at};
 ghost use Rattle.guide.specs.meaning.Guide.{guide_of};
 ghost use Rattle.placing.specs.method.Fitting.{is_selected_at, fits_at, home_at};
 ghost use Rattle.placing.specs.meaning.Fitting.{least};
-ghost use Rattle.placing.specs.method.Kept.{Looked, home_tag, tabled_end, TagsOf, first_of_tag};
+ghost use Rattle.placing.specs.method.Kept.{Looked, selected_of, home_tag, tabled_end, TagsOf, first_of_tag};
+ghost use Rattle.placing.specs.method.Tables.{or_none};
 
-use guide::words::KIND_GROUP;
+use arrayvec::ArrayVec;
 use guide::{code, layout};
 use reading::service::Service;
 use reading::span::Span;
 use reading::{lookup, tag};
 
-// A component that has been looked up, and where it lies. Element 0 is none.
+// A component that has been looked up, and where it lies.
 #[derive(Clone, Copy)]
 pub struct Selected {
     pub element: u32,
@@ -20,22 +21,27 @@ pub struct Selected {
     pub span: Span,
 }
 
-// The component that the line's selector names. Lines of one tag mostly name the same, so the one before is kept.
+// The component that the line's selector names; none where it has no selector. Lines of one tag mostly name the same, so the one
+// before is kept.
 fn select(
     service: Service,
     message: &[u8],
     at: usize,
     book: &[u8],
     line: u32,
-    before: Selected,
-) -> Selected
-    requires { (at + 3 ≤ length message.now) × Looked service message.now at before }
-    ensures { Looked service message.now at result × ((result.element ≡ (guide_of book.now).selector_element line) × (result.component ≡ (guide_of book.now).selector_component line)) }
+    before: Option<Selected>,
+) -> Option<Selected>
+    requires within { at + 3 ≤ length message.now }
+    requires looked { Looked service message.now at before }
+    ensures { result ≡ selected_of service (guide_of book.now) message.now at line }
 {
     let element = layout::selector_element(book, line);
     let component = layout::selector_component(book, line);
-    if element == before.element {
-        if component == before.component {
+    if element == 0 {
+        return None;
+    }
+    if let Some(selected) = before {
+        if selected.element == element && selected.component == component {
             return before;
         }
     }
@@ -46,159 +52,157 @@ fn select(
         element as usize,
         component as usize,
     );
-    Selected {
+    Some(Selected {
         element,
         component,
         span,
-    }
+    })
 }
 
 // Is the component's value, as it is written, among the line's codes? Every segment is selected where there is no selector.
+#[tactic(auto, using(crate::proofs::Finding::all_selected, crate::proofs::Finding::selected, crate::proofs::Finding::lies_inside))]
 fn is_selected(
     service: Service,
     message: &[u8],
     at: usize,
     book: &[u8],
     line: u32,
-    selected: Selected,
+    selected: Option<Selected>,
 ) -> bool
-    requires { (at + 3 ≤ length message.now) × Looked service message.now at selected × ((selected.element ≡ (guide_of book.now).selector_element line) × (selected.component ≡ (guide_of book.now).selector_component line)) }
+    requires within { at + 3 ≤ length message.now }
+    requires selected { selected ≡ selected_of service (guide_of book.now) message.now at line }
     ensures { result ≡ is_selected_at service (guide_of book.now) message.now at line }
 {
-    if selected.element == 0 {
+    let Some(selected) = selected else {
         return true;
-    }
+    };
     let first = layout::first_code(book, line) as u16;
     let count = layout::code_count(book, line) as u16;
-    let start = selected.span.start;
-    let end = selected.span.end;
+    let Span { start, end } = selected.span;
     code::is_any_code(book, first, count, &message[start..end])
 }
 
 // Lines 0 to 256, which are all that a good book can have.
-pub const TABLED: usize = 257;
-
-// Their tags, read once for a pass over a message: the lines' tags are asked for most often of all.
-pub type Tags = [u32; TABLED];
+const TABLED: usize = 257;
 
 // Greater than a segment's tag, which has three bytes.
+// Stays: an Option would be compared with `Some(tag)`, where the line now compares two numbers.
 const NO_TAG: u32 = 0x100_0000;
 
 // The tag of the segments that a line can be home to: a group is home to none.
 fn home_tag(book: &[u8], line: u32) -> u32
     ensures { result ≡ home_tag (guide_of book.now) line }
 {
-    if layout::kind(book, line) == KIND_GROUP {
+    if layout::is_group(book, line) {
         return NO_TAG;
     }
     layout::tag(book, line)
 }
 
 // The first line whose tag is not in the table: behind the last line, since there is room for all that a good book has.
-pub fn tabled_end(book: &[u8]) -> usize
+fn tabled_end(book: &[u8]) -> u32
     ensures { result ≡ tabled_end (guide_of book.now) }
 {
-    let lines = layout::lines(book) as usize;
-    if lines < TABLED {
+    let lines = layout::lines(book);
+    if lines < TABLED as u32 {
         return lines + 1;
     }
-    TABLED
+    TABLED as u32
 }
 
-pub fn tags_of(book: &[u8], end: usize) -> Tags
-    requires { end ≡ tabled_end (guide_of book.now) }
-    ensures { TagsOf (guide_of book.now) end result }
+fn tags_of(book: &[u8]) -> ArrayVec<u32, TABLED>
+    ensures { TagsOf (guide_of book.now) result.items }
 {
-    let mut tags = [0u32; TABLED];
-    let mut line: usize = 0;
-    while line < end {
-        tags[line] = home_tag(book, line as u32);
-        line += 1;
+    let mut tags = ArrayVec::new();
+    for line in 0..tabled_end(book) {
+        tags.push(home_tag(book, line));
     }
     tags
 }
 
-// The same of any line.
-fn tag_of(book: &[u8], tags: &Tags, end: usize, line: u32) -> u32
-    requires { TagsOf (guide_of book.now) end tags.now }
-    ensures { result ≡ home_tag (guide_of book.now) line }
-{
-    if (line as usize) < end {
-        return tags[line as usize];
-    }
-    home_tag(book, line)
+// The lines of a book, with their tags read once for a pass over a message: the lines' tags are asked for most often of all.
+#[derive(Drop)]
+pub struct Lines<'a> {
+    pub book: &'a [u8],
+    pub tags: ArrayVec<u32, TABLED>,
+    ghost tabled: { TagsOf (guide_of book.now) tags.items },
 }
 
-// The least line of this tag in the table; 0 if there is none. The lines of other tags are passed over here, and nothing but tags
-// is compared.
-fn first_of_tag(tags: &Tags, end: usize, tag: u32) -> u32
-    requires { end ≤ 257 }
-    ensures { result ≡ first_of_tag tags.now end tag }
-{
-    let mut line: usize = 1;
-    while line < end {
-        if tags[line] == tag {
-            return line as u32;
+impl<'a> Lines<'a> {
+    pub fn of(book: &'a [u8]) -> Lines<'a>
+        ensures { result.book.now ≡ book.now }
+    {
+        Lines {
+            book,
+            tags: tags_of(book),
         }
-        line += 1;
     }
-    0
-}
 
-// The least line, from the first one on, that the segment fits; 0 if there is none.
-fn find_from(
-    service: Service,
-    message: &[u8],
-    at: usize,
-    book: &[u8],
-    tags: &Tags,
-    end: usize,
-    tag: u32,
-    first: u32,
-) -> u32
-    requires { (at + 3 ≤ length message.now) × TagsOf (guide_of book.now) end tags.now × ((tag ≡ tag_at message.now at) × (tag < 2 ^ 24)) }
-    ensures { result ≡ least (fits_at service (guide_of book.now) message.now at) first (suc (guide_of book.now).lines - first) }
-{
-    let lines = layout::lines(book);
-    let mut selected = Selected {
-        element: 0,
-        component: 0,
-        span: Span::empty_at(at),
-    };
-    let mut line = first;
-    while line <= lines {
-        let tried = line;
-        line += 1;
-        if tag_of(book, tags, end, tried) == tag {
-            selected = select(service, message, at, book, tried, selected);
-            if is_selected(service, message, at, book, tried, selected) {
-                return tried;
+    // The tag of any line.
+    fn tag_of(&self, line: u32) -> u32
+        ensures { result ≡ home_tag (guide_of self.now.book.now) line }
+    {
+        match self.tags.get(line as usize) {
+            Some(tag) => *tag,
+            None => home_tag(self.book, line),
+        }
+    }
+
+    // The least line of this tag in the table. The lines of other tags are passed over here, and nothing but tags is compared.
+    #[tactic(auto, using(crate::proofs::OrNone::is_none, crate::proofs::OrNone::is_some_number, crate::proofs::Finding::least_none, crate::proofs::Finding::least_here, crate::proofs::Finding::least_on))]
+    fn first_of_tag(&self, tag: u32) -> Option<u32>
+        ensures { result ≡ or_none (first_of_tag self.now.tags.items tag) }
+    {
+        for line in 1..self.tags.len() {
+            if self.tags[line] == tag {
+                return Some(line as u32);
             }
         }
+        None
     }
-    0
-}
 
-// The home of the segment that starts at an offset, with three bytes at least; 0 if it has none. The first line of its tag is its
-// home, where that has no selector. Else the lines from there on are tried, or those that the table has no room for.
-pub fn find_home(
-    service: Service,
-    message: &[u8],
-    at: usize,
-    book: &[u8],
-    tags: &Tags,
-    end: usize,
-) -> u32
-    requires { (at + 3 ≤ length message.now) × TagsOf (guide_of book.now) end tags.now }
-    ensures { result ≡ home_at service (guide_of book.now) message.now at }
-{
-    let tag = tag::tag_at(message, at);
-    let first = first_of_tag(tags, end, tag);
-    if first == 0 {
-        return find_from(service, message, at, book, tags, end, tag, end as u32);
+    // The least line, from the first one on, that the segment fits.
+    #[tactic(auto, using(crate::proofs::OrNone::is_none, crate::proofs::OrNone::is_some_number, crate::proofs::Finding::least_none, crate::proofs::Finding::least_here, crate::proofs::Finding::least_on, crate::proofs::Finding::fits_not, crate::proofs::Finding::fits_selected, crate::proofs::Finding::looked))]
+    fn find_from(
+        &self,
+        service: Service,
+        message: &[u8],
+        at: usize,
+        tag: u32,
+        first: u32,
+    ) -> Option<u32>
+        requires within { at + 3 ≤ length message.now }
+        requires its_tag { tag ≡ tag_at message.now at }
+        requires three_bytes { tag < 2 ^ 24 }
+        requires some_line { 1 ≤ first }
+        ensures { result ≡ or_none (least (fits_at service (guide_of self.now.book.now) message.now at) first (suc (guide_of self.now.book.now).lines - first)) }
+    {
+        let mut selected = None;
+        for line in first..=layout::lines(self.book) {
+            if self.tag_of(line) == tag {
+                selected = select(service, message, at, self.book, line, selected);
+                if is_selected(service, message, at, self.book, line, selected) {
+                    return Some(line);
+                }
+            }
+        }
+        None
     }
-    if layout::selector_element(book, first) == 0 {
-        return first;
+
+    // The home of the segment that starts at an offset, with three bytes at least. The first line of its tag is its home, where that
+    // has no selector. Else the lines from there on are tried, or those that the table has no room for.
+    #[tactic(auto, using(crate::proofs::OrNone::no_number, crate::proofs::OrNone::some_number, crate::proofs::Finding::home_past, crate::proofs::Finding::home_first))]
+    pub fn find_home(&self, service: Service, message: &[u8], at: usize) -> Option<u32>
+        requires { at + 3 ≤ length message.now }
+        ensures { result ≡ or_none (home_at service (guide_of self.now.book.now) message.now at) }
+    {
+        let tag = tag::tag_at(message, at);
+        let Some(first) = self.first_of_tag(tag) else {
+            return self.find_from(service, message, at, tag, self.tags.len() as u32);
+        };
+        if layout::selector_element(self.book, first) == 0 {
+            return Some(first);
+        }
+        self.find_from(service, message, at, tag, first)
     }
-    find_from(service, message, at, book, tags, end, tag, first)
 }

@@ -8,5 +8,5 @@ mod tables;
 mod tree;
 mod walk;
 
-pub use passes::{Placing, test_placing, write_tree};
+pub use passes::{Unplaced, test_placing, write_tree};
 pub use tables::{place_of, start_of};

@@ -1,51 +1,33 @@
 // What the tables say that a pass has written: which segment stands on a line, and where a segment starts.
-ghost use Rattle.std.specs.Prelude.{◌≡◌, ◌-◌, get_or, take};
-ghost use Rattle.placing.specs.method.Tables.{place_from};
+ghost use Rattle.std.specs.Prelude.{◌≡◌, ◌-◌, ◌==◌, get_or, take, position};
+ghost use Rattle.placing.specs.method.Tables.{place_from, or_none};
 
-// The first of so many segments whose home is this line, by its place; 0 if there is none.
-pub fn place_of(homes: &[u32], segments: u32, line: u32) -> u32
-    ensures { result ≡ place_from line 0 (take segments homes.now) }
+// The entry of the first of so many segments whose home is this line.
+fn entry_with(homes: &[u32], segments: usize, line: u32) -> Option<usize>
+    ensures { result ≡ position (λ home. home == line) (take segments homes.now) }
 {
-    let mut place: u32 = 0;
-    while place < segments {
-        let at = place as usize;
-        if homes.len() <= at {
-            return 0;
-        }
-        place += 1;
-        if homes[at] == line {
-            return place;
-        }
-    }
-    0
+    homes.iter().take(segments).position(|home| *home == line)
 }
 
-// Places count from 1, entries from 0.
-fn entry_for(place: u32) -> u32
-    ensures { result ≡ place - 1 }
+// The same, by its place: places count from 1, entries from 0.
+#[tactic(auto, using(crate::proofs::Entries::first_place))]
+pub fn place_of(homes: &[u32], segments: u32, line: u32) -> Option<u32>
+    ensures { result ≡ or_none (place_from line 0 (take segments homes.now)) }
 {
-    if place == 0 {
-        return 0;
-    }
-    place - 1
-}
-
-// An entry of so many; 0 where there is none.
-fn entry_at(table: &[u32], entries: u32, at: u32) -> u32
-    ensures { result ≡ get_or (take entries table.now) at 0 }
-{
-    if entries <= at {
-        return 0;
-    }
-    if table.len() <= at as usize {
-        return 0;
-    }
-    table[at as usize]
+    let entry = entry_with(homes, segments as usize, line)?;
+    Some(entry as u32 + 1)
 }
 
 // Where the segment at a place starts, of so many; 0 where there is none.
+// Stays: 0 is where judging looks for the Prüfidentifikator then, so an Option would only be unwrapped.
 pub fn start_of(starts: &[u32], segments: u32, place: u32) -> u32
     ensures { result ≡ get_or (take segments starts.now) (place - 1) 0 }
 {
-    entry_at(starts, segments, entry_for(place))
+    let entry = place.saturating_sub(1) as usize;
+    starts
+        .iter()
+        .take(segments as usize)
+        .nth(entry)
+        .copied()
+        .unwrap_or(0)
 }

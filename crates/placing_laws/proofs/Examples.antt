@@ -14,7 +14,8 @@ use Rattle.placing.specs.method.Tree.{opened_by, noted, noted_parents}
 use Rattle.guide.specs.meaning.Tree.{climb}
 use Rattle.placing_laws.specs.laws.ClosedTree.{last_of, closed, closed_parents}
 use Rattle.placing.specs.method.Passes.{tested_from, tested}
-use Rattle.placing.specs.declared.passes.Placing.TheVariants.{Begins, NoHome, Stops}
+use Rattle.placing.specs.declared.passes.Unplaced.TheVariants.{NoHome, Stops}
+use Rattle.std.specs.Prelude.{Ok, Err}
 use Rattle.placing_laws.proofs.Structured.{structured}
 use Rattle.placing_laws.proofs.Completing.{end_allowed}
 
@@ -26,13 +27,13 @@ abbrev positions : List ℕ
 positions = 1 ∷ 2 ∷ 3 ∷ 5 ∷ 6 ∷ 5 ∷ 7 ∷ []
 
 pub record Table : Type 0 where
-  three_lin : tested K (1 ∷ 2 ∷ 3 ∷ 5 ∷ 5 ∷ 5 ∷ 7 ∷ []) ≡ Stops 6
-  qty_first : tested K (1 ∷ 2 ∷ 3 ∷ 6 ∷ 5 ∷ 7 ∷ []) ≡ Stops 4
-  no_rff : tested K (1 ∷ 2 ∷ 7 ∷ []) ≡ Stops 3
-  no_position : tested K (1 ∷ 2 ∷ 3 ∷ 7 ∷ []) ≡ Begins
-  two_positions : tested K positions ≡ Begins
+  three_lin : tested K (1 ∷ 2 ∷ 3 ∷ 5 ∷ 5 ∷ 5 ∷ 7 ∷ []) ≡ Err (Stops 6)
+  qty_first : tested K (1 ∷ 2 ∷ 3 ∷ 6 ∷ 5 ∷ 7 ∷ []) ≡ Err (Stops 4)
+  no_rff : tested K (1 ∷ 2 ∷ 7 ∷ []) ≡ Err (Stops 3)
+  no_position : tested K (1 ∷ 2 ∷ 3 ∷ 7 ∷ []) ≡ Ok tt
+  two_positions : tested K positions ≡ Ok tt
   -- a segment without a home is found behind homes that are not allowed
-  homeless_behind : tested K (1 ∷ 2 ∷ 7 ∷ 0 ∷ []) ≡ NoHome 4
+  homeless_behind : tested K (1 ∷ 2 ∷ 7 ∷ 0 ∷ []) ≡ Err (NoHome 4)
   tree : noted_parents K positions ≡ 0 ∷ 0 ∷ 0 ∷ 0 ∷ 4 ∷ 0 ∷ 0 ∷ []
   tree_closed : closed_parents K positions ≡ 0 ∷ 0 ∷ 0 ∷ 0 ∷ 4 ∷ 0 ∷ 0 ∷ []
 

@@ -27,7 +27,7 @@ use Rattle.reading.specs.method.Part.{bytes_in}
 use Rattle.reading.specs.meaning.Tag.{tag_number}
 use Rattle.reading.specs.declared.service.Service.{Service}
 use Rattle.reading.specs.declared.span.Span.{Span}
-use Rattle.reading.specs.declared.cursor.End.TheVariants.{At}
+use Rattle.std.specs.Prelude.{Some}
 use Rattle.reading.proofs.Comparing.{same_bytes_true}
 use Rattle.reading_laws.proofs.OneReading.{same_bytes_refl}
 use Rattle.reading_laws.proofs.Cursors.{end_of_segment}
@@ -89,7 +89,7 @@ module _ (book : List ℕ) (good : GoodBook book) (l : ℕ) (from : 1 ≤ l) (to
     -- what lies behind the tag is the component's value, written
     value_there : (e c : ℕ) → (e ≡ 0 → ⊥) → (c ≡ 0 → ⊥) → bytes_in (seek_from s bs (at + 3) e c) bs ≡ write_component s (value_at g e c) []
     value_there e c n m =
-        ap (λ (x : Span). bytes_in x bs) (span_by_end s bs at e c (seek_from s bs (at + 3) e c) n m (At (end_of s at g)) (end_of_segment s service bs at g i) refl)
+        ap (λ (x : Span). bytes_in x bs) (span_by_end s bs at e c (seek_from s bs (at + 3) e c) n m (Some (end_of s at g)) (end_of_segment s service bs at g i) refl)
         ∙ part_is_value s service bs at e c g i
 
     selected_same : is_selected_at s (guide_of book) bs at l ≡ is_selected (line_of (guide_of book) l) g

@@ -14,7 +14,7 @@ one_test_placing κs a r q x y m n = m ∙ sym n
 pub one_write_tree : (κs : _) (a : _) (r q : _) (x y : _) → write_tree.Post κs a r x → write_tree.Post κs a q y
     → (x.1.1.1.1.0.now ≡ y.1.1.1.1.0.now) × (x.1.1.1.1.1.0.now ≡ y.1.1.1.1.1.0.now)
     × (x.1.1.1.1.1.1.0.now ≡ y.1.1.1.1.1.1.0.now)
-one_write_tree κs a r q x y m n = (m.0 ∙ sym n.0, m.1 ∙ sym n.1, m.2 ∙ sym n.2)
+one_write_tree κs a r q x y m n = (m.0 ∙ sym n.0, m.1.0 ∙ sym n.1.0, m.1.1 ∙ sym n.1.1)
 
 pub one_place_of : One place_of.Post
 one_place_of κs a r q x y m n = m ∙ sym n

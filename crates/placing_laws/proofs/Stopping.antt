@@ -9,7 +9,7 @@ use mathlib.Core.Logic.{◌↔◌, dite}
 use lib.Dec.{eqb}
 use lib.ListN.{length, get_or, take, drop, take-append-drop, length-append, get_or-append}
 use lib.Seq.{take-append-le, take_all, get_or-append_seam}
-use borrow.Author.Tests.{eq-eqb, ne_eqb, eqb-true, eqb-false}
+use borrow.Author.Tests.{eq-eqb, eqb-true, eqb-false}
 use Rattle.guide.specs.meaning.Plan.{Plan, is_trigger}
 use Rattle.guide.specs.method.Targets.{target}
 use Rattle.placing.specs.meaning.Placement.{Allowed}
@@ -20,8 +20,9 @@ use Rattle.placing.specs.meaning.Answers.{HaveHomes, FirstWithout}
 use Rattle.placing_laws.specs.laws.Answers.{Means}
 use Rattle.placing.specs.method.Passes.{first_stop, outcome_of, tested_from, tested}
 use Rattle.placing.specs.declared.walk.Level.{Level}
-use Rattle.placing.specs.declared.passes.Placing.{Placing}
-use Rattle.placing.specs.declared.passes.Placing.TheVariants.{Begins, NoHome, Stops}
+use Rattle.placing.specs.declared.passes.Unplaced.{Unplaced}
+use Rattle.placing.specs.declared.passes.Unplaced.TheVariants.{NoHome, Stops}
+use Rattle.std.specs.Prelude.{⊤, Option, None, Some, Result, Ok, Err}
 use Rattle.placing_laws.proofs.Structured.{Structured}
 use Rattle.placing_laws.proofs.Walks.{walked_on, walked_nil, of_no_trigger}
 use Rattle.placing_laws.proofs.Completing.{alive_begins, begins_alive, end_allowed, walked_append, last_line_lem, alive_before, allowed_last}
@@ -33,9 +34,9 @@ module _ (b : Plan) (s : Structured b) where
   Alive hs v = is_alive (walked b start hs) ≡ v
 
   -- what a stop says of the homes seen
-  data Stopped (seen : List ℕ) : ℕ → Type 0 where
-    never : Alive seen true → Stopped seen 0
-    at : (k : ℕ) → 1 ≤ k → k ≤ length seen → ((j : ℕ) → j < k → Alive (take j seen) true) → Alive (take k seen) false → Stopped seen k
+  data Stopped (seen : List ℕ) : Option ℕ → Type 0 where
+    never : Alive seen true → Stopped seen None
+    at : (k : ℕ) → 1 ≤ k → k ≤ length seen → ((j : ℕ) → j < k → Alive (take j seen) true) → Alive (take k seen) false → Stopped seen (Some k)
 
   front_alive : (xs ys : List ℕ) → Alive (xs ++ ys) true → Alive xs true
   front_alive xs ys h = alive_before b s (walked b start xs) ys (sym (ap is_alive (walked_append b s start xs ys)) ∙ h)
@@ -43,18 +44,16 @@ module _ (b : Plan) (s : Structured b) where
   prefix_alive : (j : ℕ) (hs : List ℕ) → Alive hs true → Alive (take j hs) true
   prefix_alive j hs h = front_alive (take j hs) (drop j hs) (ap (λ (xs : List ℕ). is_alive (walked b start xs)) (take-append-drop j hs) ∙ h)
 
-  stopped_on : (seen : List ℕ) (h stop : ℕ) → Stopped seen stop → (v : Bool) → Alive (seen ++ (h ∷ [])) v → Stopped (seen ++ (h ∷ [])) (first_stop stop v (suc (length seen)))
+  stopped_on : (seen : List ℕ) (h : ℕ) (stop : Option ℕ) → Stopped seen stop → (v : Bool) → Alive (seen ++ (h ∷ [])) v → Stopped (seen ++ (h ∷ [])) (first_stop stop v (suc (length seen)))
   stopped_on seen h stop (never a) true e = never e
   stopped_on seen h stop (never a) false e =
       at (suc (length seen)) (omega arith) (omega (arith, length-append seen (h ∷ [])))
       (λ j i. subst (λ (xs : List ℕ). Alive xs true) (sym (take-append-le j seen (h ∷ []) (omega arith))) (prefix_alive j seen a))
       (subst (λ (xs : List ℕ). Alive xs false) (sym (take_all (suc (length seen)) (seen ++ (h ∷ [])) (omega (arith, length-append seen (h ∷ []))))) e)
   stopped_on seen h stop (at k one within lives dies) v e =
-      let stays : first_stop k v (suc (length seen)) ≡ k = simp (ne_eqb k 0 (λ z. omega arith)) in
-      subst (λ (x : ℕ). Stopped (seen ++ (h ∷ [])) x) (sym stays)
-      (at k one (omega (arith, length-append seen (h ∷ [])))
+      at k one (omega (arith, length-append seen (h ∷ [])))
       (λ j i. subst (λ (xs : List ℕ). Alive xs true) (sym (take-append-le j seen (h ∷ []) (omega arith))) (lives j i))
-      (subst (λ (xs : List ℕ). Alive xs false) (sym (take-append-le k seen (h ∷ []) within)) dies))
+      (subst (λ (xs : List ℕ). Alive xs false) (sym (take-append-le k seen (h ∷ []) within)) dies)
 
   -- ---- homes, and the first segment without one
 
@@ -78,42 +77,40 @@ module _ (b : Plan) (s : Structured b) where
 
   -- ---- the answer
 
-  answer : (seen : List ℕ) (stop : ℕ) → HaveHomes seen → Stopped seen stop → Means b seen (outcome_of stop)
+  answer : (seen : List ℕ) (stop : Option ℕ) → HaveHomes seen → Stopped seen stop → Means b seen (outcome_of stop)
   answer seen stop all (never a) = (all, alive_begins b s seen a)
-  answer seen stop all (at k one within lives dies) =
-      let e : outcome_of k ≡ Stops k = simp (ne_eqb k 0 (λ z. omega arith)) in
-      subst (λ (x : Placing). Means b seen x) (sym e) (
-        all,
-        record {
-          some = one;
-          within = within;
-          shorter = λ j i. alive_begins b s (take j seen) (lives j i);
-          stops = λ g. false≢true (sym dies ∙ begins_alive b s (take k seen) g);
-        },
-      )
+  answer seen stop all (at k one within lives dies) = (
+    all,
+    record {
+      some = one;
+      within = within;
+      shorter = λ j i. alive_begins b s (take j seen) (lives j i);
+      stops = λ g. false≢true (sym dies ∙ begins_alive b s (take k seen) g);
+    },
+  )
 
-  tested_nil : (seen : List ℕ) (stop k : ℕ) → tested_from b seen stop k [] ≡ outcome_of stop
+  tested_nil : (seen : List ℕ) (stop : Option ℕ) (k : ℕ) → tested_from b seen stop k [] ≡ outcome_of stop
   unfolding tested_from
   tested_nil seen stop k = refl
 
-  tested_cons : (seen : List ℕ) (stop k h : ℕ) (hs : List ℕ) → tested_from b seen stop k (h ∷ hs)
-      ≡ cond (eqb h 0) (NoHome (suc k)) (tested_from b (seen ++ (h ∷ [])) (first_stop stop (is_alive (walked b start (seen ++ (h ∷ [])))) (suc k)) (suc k) hs)
+  tested_cons : (seen : List ℕ) (stop : Option ℕ) (k h : ℕ) (hs : List ℕ) → tested_from b seen stop k (h ∷ hs)
+      ≡ cond (eqb h 0) (Err (NoHome (suc k))) (tested_from b (seen ++ (h ∷ [])) (first_stop stop (is_alive (walked b start (seen ++ (h ∷ [])))) (suc k)) (suc k) hs)
   unfolding tested_from
   tested_cons seen stop k h hs = refl
 
-  means : (hs seen : List ℕ) (stop : ℕ) → HaveHomes seen → Stopped seen stop → Means b (seen ++ hs) (tested_from b seen stop (length seen) hs)
+  means : (hs seen : List ℕ) (stop : Option ℕ) → HaveHomes seen → Stopped seen stop → Means b (seen ++ hs) (tested_from b seen stop (length seen) hs)
   means [] seen stop all so =
       subst (λ (xs : List ℕ). Means b xs (tested_from b seen stop (length seen) [])) (sym (append-nil seen))
-      (subst (λ (x : Placing). Means b seen x) (sym (tested_nil seen stop (length seen))) (answer seen stop all so))
+      (subst (λ (x : Result ⊤ Unplaced). Means b seen x) (sym (tested_nil seen stop (length seen))) (answer seen stop all so))
   means (h ∷ hs) seen stop all so =
-      subst (λ (x : Placing). Means b (seen ++ (h ∷ hs)) x) (sym (tested_cons seen stop (length seen) h hs)) (go (eqb h 0) refl (means hs (seen ++ (h ∷ []))))
+      subst (λ (x : Result ⊤ Unplaced). Means b (seen ++ (h ∷ hs)) x) (sym (tested_cons seen stop (length seen) h hs)) (go (eqb h 0) refl (means hs (seen ++ (h ∷ []))))
     where
-      rest : ℕ → Placing
+      rest : ℕ → Result ⊤ Unplaced
       rest k = tested_from b (seen ++ (h ∷ [])) (first_stop stop (is_alive (walked b start (seen ++ (h ∷ [])))) (suc (length seen))) k hs
 
       go : (v : Bool) → eqb h 0 ≡ v
-          → ((next : ℕ) → HaveHomes (seen ++ (h ∷ [])) → Stopped (seen ++ (h ∷ [])) next → Means b ((seen ++ (h ∷ [])) ++ hs) (tested_from b (seen ++ (h ∷ [])) next (length (seen ++ (h ∷ []))) hs))
-          → Means b (seen ++ (h ∷ hs)) (cond v (NoHome (suc (length seen))) (rest (suc (length seen))))
+          → ((next : Option ℕ) → HaveHomes (seen ++ (h ∷ [])) → Stopped (seen ++ (h ∷ [])) next → Means b ((seen ++ (h ∷ [])) ++ hs) (tested_from b (seen ++ (h ∷ [])) next (length (seen ++ (h ∷ []))) hs))
+          → Means b (seen ++ (h ∷ hs)) (cond v (Err (NoHome (suc (length seen)))) (rest (suc (length seen))))
       go true e ih = first_here seen h hs (eqb-true h 0 e) all
       go false e ih =
           subst (λ (xs : List ℕ). Means b xs (rest (suc (length seen)))) (append_assoc seen (h ∷ []) hs)
@@ -123,7 +120,7 @@ module _ (b : Plan) (s : Structured b) where
 
   -- the law: each answer says what 01's numbers 10 and 11 say
   pub test_means : (hs : List ℕ) → Means b hs (tested b hs)
-  test_means hs = means hs [] 0 (λ j i. absurd (omega arith)) (never (ap is_alive (walked_nil b s start)))
+  test_means hs = means hs [] None (λ j i. absurd (omega arith)) (never (ap is_alive (walked_nil b s start)))
 
   -- ---- allowed homes are those that begin an allowed sequence and end on the last line
 
@@ -182,24 +179,24 @@ module _ (b : Plan) (s : Structured b) where
   same_number j k one p q = dite (dec_lt j k) (λ h. absurd (one j k p q h)) (λ h. dite (dec_lt k j) (λ l. absurd (one k j q p l)) (λ l. omega arith))
 
   -- no two answers can both be true of some homes
-  pub one_meaning : (hs : List ℕ) (x y : Placing) → Means b hs x → Means b hs y → x ≡ y
-  one_meaning hs Begins Begins m n = refl
-  one_meaning hs Begins (NoHome k) m n = absurd (all_have hs k m.0 n)
-  one_meaning hs Begins (Stops k) m n = absurd (n.1.stops (begins_front k hs m.1))
-  one_meaning hs (NoHome j) Begins m n = absurd (all_have hs j n.0 m)
-  one_meaning hs (NoHome j) (NoHome k) m n = ap NoHome (same_number {P = FirstWithout hs} j k (one_without hs) m n)
-  one_meaning hs (NoHome j) (Stops k) m n = absurd (all_have hs j n.0 m)
-  one_meaning hs (Stops j) Begins m n = absurd (m.1.stops (begins_front j hs n.1))
-  one_meaning hs (Stops j) (NoHome k) m n = absurd (all_have hs k m.0 n)
-  one_meaning hs (Stops j) (Stops k) m n = ap Stops (same_number {P = placement.Stops b hs} j k (one_stop hs) m.1 n.1)
+  pub one_meaning : (hs : List ℕ) (x y : Result ⊤ Unplaced) → Means b hs x → Means b hs y → x ≡ y
+  one_meaning hs (Ok x) (Ok y) m n = refl
+  one_meaning hs (Ok x) (Err (NoHome k)) m n = absurd (all_have hs k m.0 n)
+  one_meaning hs (Ok x) (Err (Stops k)) m n = absurd (n.1.stops (begins_front k hs m.1))
+  one_meaning hs (Err (NoHome j)) (Ok y) m n = absurd (all_have hs j n.0 m)
+  one_meaning hs (Err (NoHome j)) (Err (NoHome k)) m n = ap (λ (i : ℕ). Err (NoHome i)) (same_number {P = FirstWithout hs} j k (one_without hs) m n)
+  one_meaning hs (Err (NoHome j)) (Err (Stops k)) m n = absurd (all_have hs j n.0 m)
+  one_meaning hs (Err (Stops j)) (Ok y) m n = absurd (m.1.stops (begins_front j hs n.1))
+  one_meaning hs (Err (Stops j)) (Err (NoHome k)) m n = absurd (all_have hs k m.0 n)
+  one_meaning hs (Err (Stops j)) (Err (Stops k)) m n = ap (λ (i : ℕ). Err (Stops i)) (same_number {P = placement.Stops b hs} j k (one_stop hs) m.1 n.1)
 
   -- so each answer is given exactly when it is true
-  pub test_exactly : (hs : List ℕ) (x : Placing) → (tested b hs ≡ x) ↔ Means b hs x
+  pub test_exactly : (hs : List ℕ) (x : Result ⊤ Unplaced) → (tested b hs ≡ x) ↔ Means b hs x
   test_exactly hs x = (λ e. subst (Means b hs) e (test_means hs), λ m. one_meaning hs (tested b hs) x (test_means hs) m)
 
   -- and of homes that end on the last line, as number 7 leaves them: 01's "homes not allowed"
-  pub tested_allowed : (hs : List ℕ) → EndsOnLast hs → (tested b hs ≡ Begins) ↔ (HaveHomes hs × Allowed b hs)
+  pub tested_allowed : (hs : List ℕ) → EndsOnLast hs → (tested b hs ≡ Ok tt) ↔ (HaveHomes hs × Allowed b hs)
   tested_allowed hs e = (
-    λ h. let m = (test_exactly hs Begins).0 h in (m.0, (allowed_ends hs).0 (m.1, e)),
-    λ m. (test_exactly hs Begins).1 (m.0, ((allowed_ends hs).1 m.1).0),
+    λ h. let m = (test_exactly hs (Ok tt)).0 h in (m.0, (allowed_ends hs).0 (m.1, e)),
+    λ m. (test_exactly hs (Ok tt)).1 (m.0, ((allowed_ends hs).1 m.1).0),
   )

@@ -2,223 +2,130 @@
 // its tag and, for every component, its element, its number and its value. What comes out is compared with ../stdout.
 #![tactic(auto)]
 
-ghost use Rattle.std.specs.Prelude.{◌≤◌, IfOk, length};
+ghost use Rattle.std.specs.Prelude.{◌-◌, length};
+ghost use Rattle.std.specs.Iterator.{at_most};
 
-use reading::cursor::{Cursor, Found};
+use reading::cursor::Cursor;
 use reading::service::Service;
+use reading::span::Span;
 use reading::{lookup, machine};
 use std::io;
 use std::io::Read;
 
-fn write(rt: &impl Print, text: &[u8]) -> io::Result<()> {
-    rt.write_all(text)
+// The segments of a text, one behind the other, as far as it is made of segments.
+#[derive(Drop)]
+struct Segments<'a> {
+    text: &'a [u8],
+    cursor: Cursor,
 }
 
-fn write_number(rt: &impl Print, number: usize) -> io::Result<()> {
-    print!(rt; "{number}")
+impl<'a> Segments<'a> {
+    fn of(text: &'a [u8]) -> Segments<'a> {
+        Segments {
+            text,
+            cursor: Cursor::first(),
+        }
+    }
+}
+
+impl<'a> Iterator for Segments<'a> {
+    type Item = Span;
+
+    ghost remaining = { λ s. at_most (length s.text.now - s.cursor.at) };
+
+    fn next(&mut self) -> Option<Span> {
+        let (span, next) = self.cursor.next_segment(Service::standard(), self.text)?;
+        // that it moves on, and not past the end, is tested here, and so need not be known
+        if next.at <= self.cursor.at || self.text.len() < next.at {
+            return None;
+        }
+        self.cursor = next;
+        Some(span)
+    }
 }
 
 // A component's value: its bytes with each releasing one left out.
 fn write_value(rt: &impl Print, raw: &[u8]) -> io::Result<()> {
     let mut released = false;
-    let mut at = 0;
-    while at < raw.len() {
-        let byte = raw[at];
-        if released {
-            released = false;
-            write(rt, &[byte])?;
-        } else if byte == b'?' {
+    for byte in raw {
+        if *byte == b'?' && !released {
             released = true;
         } else {
-            write(rt, &[byte])?;
+            released = false;
+            rt.write_all(&[*byte])?;
         }
-        at += 1;
     }
     Ok(())
 }
 
-// One line: `  2.1 ORDRSP`.
-fn write_component(
-    rt: &impl Print,
-    text: &[u8],
-    at: usize,
-    element: usize,
-    component: usize,
-    indent: &[u8],
-) -> io::Result<()> {
-    write(rt, indent)?;
-    write_number(rt, element)?;
-    write(rt, b".")?;
-    write_number(rt, component)?;
-    write(rt, b" ")?;
-    write_value(
-        rt,
-        lookup::find_component(Service::standard(), text, at, element, component),
-    )?;
-    write(rt, b"\n")
-}
-
-// Every component of the segment that starts at `at`: the byte behind one says whether another follows in the element, or
-// an element, or nothing.
-fn write_components(
-    rt: &impl Print,
-    text: &[u8],
-    at: usize,
-    from: usize,
-    indent: &[u8],
-) -> io::Result<()> {
-    let mut element: usize = 0;
-    let mut component: usize = 0;
-    let mut mark = from;
-    while mark < text.len() {
-        let byte = text[mark];
-        if byte == b'\'' {
-            return Ok(());
+// A line for every component of the segment that starts at `at`, as `  2.1 ORDRSP`. The byte behind one says whether another
+// follows in the element, or an element, or nothing.
+fn write_components(rt: &impl Print, text: &[u8], at: usize, indent: &str) -> io::Result<()> {
+    let service = Service::standard();
+    for element in 1.. {
+        for component in 1.. {
+            let value = lookup::find_component(service, text, at, element, component);
+            print!(rt; "{indent}{element}.{component} ")?;
+            write_value(rt, value)?;
+            println!(rt;)?;
+            let span = lookup::component_span(service, text, at, element, component);
+            match text.get(span.end) {
+                Some(b':') => {}
+                Some(b'+') => break,
+                _ => return Ok(()),
+            }
         }
-        if byte == b'+' {
-            element += 1;
-            component = 1;
-        } else {
-            component += 1;
-        }
-        write_component(rt, text, at, element, component, indent)?;
-        let span = lookup::component_span(Service::standard(), text, at, element, component);
-        let end = span.end;
-        if end <= mark {
-            return Ok(());
-        }
-        mark = end;
     }
     Ok(())
 }
 
 // The tag, and then a line for each component.
-fn write_segment(rt: &impl Print, text: &[u8], at: usize, indent: &[u8]) -> io::Result<()> {
-    if text.len() < 3 {
-        return Ok(());
-    }
-    if text.len() - 3 < at {
+fn write_segment(rt: &impl Print, text: &[u8], at: usize, indent: &str) -> io::Result<()> {
+    if text.len() < 3 || text.len() - 3 < at {
         return Ok(());
     }
     let from = at + 3;
-    write(rt, &text[at..from])?;
-    write(rt, b"\n")?;
-    write_components(rt, text, at, from, indent)
-}
-
-fn write_segments(rt: &impl Print, text: &[u8]) -> io::Result<()> {
-    let mut at = 0;
-    while at < text.len() {
-        let cursor = Cursor { at };
-        match cursor.next_segment(Service::standard(), text) {
-            Found::Segment(span, next) => {
-                write(rt, b"  ")?;
-                write_segment(rt, text, span.start, b"    ")?;
-                let behind = next.at;
-                if behind <= at {
-                    return Ok(());
-                }
-                at = behind;
-            }
-            Found::Nothing => {
-                return Ok(());
-            }
-        }
+    rt.write_all(&text[at..from])?;
+    println!(rt;)?;
+    if text.get(from) == Some(&b'+') {
+        write_components(rt, text, at, indent)?;
     }
     Ok(())
-}
-
-// How far a text is made of segments, one behind the other, and how many there are.
-#[derive(Clone, Copy)]
-struct Run {
-    end: usize,
-    segments: usize,
-}
-
-fn read_segments(text: &[u8]) -> Run {
-    let mut at = 0;
-    let mut segments: usize = 0;
-    while at < text.len() {
-        let cursor = Cursor { at };
-        match cursor.next_segment(Service::standard(), text) {
-            Found::Segment(_, next) => {
-                let behind = next.at;
-                if behind <= at {
-                    return Run { end: at, segments };
-                }
-                at = behind;
-                segments += 1;
-            }
-            Found::Nothing => {
-                return Run { end: at, segments };
-            }
-        }
-    }
-    Run { end: at, segments }
 }
 
 fn write_example(rt: &impl Print, number: usize, text: &[u8]) -> io::Result<()> {
-    write_number(rt, number)?;
-    write(rt, b" ")?;
-    let run = read_segments(text);
-    if run.end < text.len() {
-        write(rt, b"not a segment: place ")?;
-        write_number(rt, machine::find_bad(Service::standard(), text, run.end))?;
-        write(rt, b"\n")
-    } else if run.segments == 1 {
-        write_segment(rt, text, 0, b"  ")
+    print!(rt; "{number} ")?;
+    let mut segments = Segments::of(text);
+    let count = segments.by_ref().count();
+    let end = segments.cursor.at;
+    if end < text.len() {
+        let place = machine::find_bad(Service::standard(), text, end);
+        println!(rt; "not a segment: place {place}")
+    } else if count == 1 {
+        write_segment(rt, text, 0, "  ")
     } else {
-        write_number(rt, run.segments)?;
-        write(rt, b" segments\n")?;
-        write_segments(rt, text)
-    }
-}
-
-// Where the line that starts at `from` ends: its LF, or the end of the text.
-fn line_end(text: &[u8], from: usize) -> usize
-    requires { from ≤ length text.now }
-    ensures { (from ≤ result) × (result ≤ length text.now) }
-{
-    let mut at = from;
-    while at < text.len() {
-        if text[at] == b'\n' {
-            return at;
+        println!(rt; "{count} segments")?;
+        for span in Segments::of(text) {
+            print!(rt; "  ")?;
+            write_segment(rt, text, span.start, "    ")?;
         }
-        at += 1;
+        Ok(())
     }
-    at
 }
 
+// A line ends at its LF, or at the end of the text.
 fn write_examples(rt: &impl Print, text: &[u8]) -> io::Result<()> {
-    let mut number: usize = 0;
-    let mut start = 0;
-    while start < text.len() {
-        let end = line_end(text, start);
-        number += 1;
-        write_example(rt, number, &text[start..end])?;
-        start = end + 1;
+    for (number, line) in (1..).zip(text.split_inclusive(|byte| *byte == b'\n')) {
+        write_example(rt, number, line.strip_suffix(b"\n").unwrap_or(line))?;
     }
     Ok(())
 }
 
-// Reads until `text` is full or the input ends, and returns how many bytes now stand at its start.
-fn read_full(input: &mut impl Read, text: &mut [u8]) -> io::Result<usize>
-    ensures { IfOk result (λ done. done ≤ length text.new) }
-{
-    let mut done = 0;
-    while done < text.len() {
-        let more = input.read(&mut text[done..])?;
-        if more == 0 {
-            break;
-        }
-        done += more;
-    }
-    Ok(done)
-}
+// So much of the input is read; of a longer one, the rest is left.
+const MOST: usize = 65_536;
 
-// Of a longer input, the rest is left unread.
 fn main(rt: HostRuntime) -> io::Result<()> {
-    let mut text = [0u8; 65536];
-    let length = read_full(&mut rt.stdin(), &mut text)?;
-    write_examples(&rt, &text[..length])
+    let mut text = [0u8; MOST];
+    let length = io::copy(&mut rt.stdin().take(MOST as u64), &mut text.as_mut_slice())?;
+    write_examples(&rt, &text[..MOST.min(length as usize)])
 }

@@ -12,9 +12,9 @@ ghost use Rattle.judging.specs.method.Answers.{placing_verdict};
 ghost use Rattle.reading.specs.method.Starts.{starts_table};
 ghost use Rattle.placing.specs.method.Passes.{homes_from, tested, homes_table, parents_table};
 
-use framing::Room;
-use placing::Placing;
-use reading::cursor::{Cursor, Found};
+use framing::{Room, Verdict};
+use placing::Unplaced;
+use reading::cursor::Cursor;
 use reading::service::Service;
 
 // More entries than any message that passes number 5 has segments.
@@ -37,7 +37,7 @@ pub extern "C" fn probe_message(message: &[u8]) -> u64
         homes: AMPLE,
         parents: AMPLE,
     };
-    let verdict = framing::message_stage(Service::standard(), message, room);
+    let verdict = Verdict::from(framing::message_stage(Service::standard(), message, room));
     pack(verdict.number, verdict.place.at)
 }
 
@@ -48,8 +48,8 @@ pub extern "C" fn probe_next(message: &[u8], at: usize) -> usize
 {
     let cursor = Cursor { at };
     match cursor.next_segment(Service::standard(), message) {
-        Found::Segment(_, next) => next.at,
-        Found::Nothing => 0,
+        Some((_, next)) => next.at,
+        None => 0,
     }
 }
 
@@ -59,9 +59,9 @@ pub extern "C" fn probe_place(message: &[u8], segments: u32, book: &[u8]) -> u64
     ensures { result ≡ packed (placing_verdict segments (tested (plan_in book.now) (homes_from standard message.now book.now segments 0))) }
 {
     match placing::test_placing(Service::standard(), message, segments, book) {
-        Placing::Begins => pack(0, segments),
-        Placing::NoHome(place) => pack(10, place),
-        Placing::Stops(place) => pack(11, place),
+        Ok(()) => pack(0, segments),
+        Err(Unplaced::NoHome(place)) => pack(10, place),
+        Err(Unplaced::Stops(place)) => pack(11, place),
     }
 }
 

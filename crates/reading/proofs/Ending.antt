@@ -10,16 +10,15 @@ use lib.Dec.{eqb, leb, ltb}
 use lib.ListN.{length, get_or, drop, length-drop, drop_of_length-le}
 use lib.Seq.{drop-cons}
 use borrow.Author.Tests.{ltb-true, ltb-false, lt-ltb, le-ltb}
+use Rattle.std.specs.Prelude.{Option, Some, None}
 use Rattle.reading.specs.meaning.Service.{is_data, is_tag_byte, must_release}
-use Rattle.reading.specs.method.Machine.{pick, kind_of, after_tag, after_tagged, after_opened, after_parted, after_inside, after_released, stepped, is_text, is_start, is_dead, end_on, segment_end, or_length}
-use Rattle.reading.specs.method.Kept.{TagOrNone, Passed, held_by, opened_by, marked_by}
+use Rattle.reading.specs.method.Machine.{pick, kind_of, after_tag, after_tagged, after_opened, after_parted, after_inside, after_released, stepped, is_text, is_start, is_dead, end_on, segment_end}
+use Rattle.reading.specs.method.Kept.{TagOrNone, Passed, PassedOrEnd, held_by, opened_by, marked_by}
 use Rattle.reading.specs.declared.service.Service.{Service}
 use Rattle.reading.specs.declared.bytes.Kind.{Kind}
 use Rattle.reading.specs.declared.bytes.Kind.TheVariants.{Component, Element, Terminator, Release, Plain, Other}
 use Rattle.reading.specs.declared.machine.State.{State}
 use Rattle.reading.specs.declared.machine.State.TheVariants.{Start, Second, Third, Tagged, Opened, Parted, Inside, Released, Dead}
-use Rattle.reading.specs.declared.cursor.End.{End}
-use Rattle.reading.specs.declared.cursor.End.TheVariants.{At, Nowhere}
 use Rattle.reading.proofs.States.{Course, ends, goes_on, fails, course}
 
 -- ---- how near the terminator can be
@@ -59,19 +58,19 @@ pub record Within (from length end : ℕ) : Type 0 where
   pub behind : from ≤ end
   pub inside : end < length
 
-pub at_is : {m n : ℕ} → At m ≡ At n → m ≡ n
+pub at_is : {m n : ℕ} → Some m ≡ Some n → m ≡ n
 at_is e = cc
 
-pub not_at : {n : ℕ} → Nowhere ≡ At n → ⊥
+pub not_at : {n : ℕ} → None ≡ Some n → ⊥
 not_at e = let z : ◌≡◌ {A = ℕ} 0 1 = cc in omega arith
 
-pub end_on_within : (s : Service) (p : State) (here end : ℕ) (bs : List ℕ) → end_on s p here bs ≡ At end → Within (here + least p) (here + length bs) end
+pub end_on_within : (s : Service) (p : State) (here end : ℕ) (bs : List ℕ) → end_on s p here bs ≡ Some end → Within (here + least p) (here + length bs) end
 unfolding end_on
 end_on_within s p here end [] e = absurd (not_at e)
 end_on_within s p here end (b ∷ bs) e = go (course (stepped s p b)) (nearer s p b) (λ q. end_on_within s q (here + 1) end bs) e
   where
-    go : {q : State} → Course q → Nearer (least p) q → ((x : State) → end_on s x (here + 1) bs ≡ At end → Within (here + 1 + least x) (here + 1 + length bs) end)
-        → pick (is_start q) (At here) (pick (is_dead q) Nowhere (end_on s q (here + 1) bs)) ≡ At end → Within (here + least p) (here + suc (length bs)) end
+    go : {q : State} → Course q → Nearer (least p) q → ((x : State) → end_on s x (here + 1) bs ≡ Some end → Within (here + 1 + least x) (here + 1 + length bs) end)
+        → pick (is_start q) (Some here) (pick (is_dead q) None (end_on s q (here + 1) bs)) ≡ Some end → Within (here + least p) (here + suc (length bs)) end
     go ends near ih e = let x : here ≡ end = at_is e in let h = near refl in record { behind = omega arith; inside = omega arith }
     go (goes_on t d) near ih e =
         let w = ih _ (rw (t, d) at e) in
@@ -80,28 +79,10 @@ end_on_within s p here end (b ∷ bs) e = go (course (stepped s p b)) (nearer s 
     go fails near ih e = absurd (not_at e)
 
 -- the terminator stands behind the three bytes of the tag, and within the message
-pub end_within : (s : Service) (bs : List ℕ) (at end : ℕ) → segment_end s bs at ≡ At end → Within (at + 3) (length bs) end
+pub end_within : (s : Service) (bs : List ℕ) (at end : ℕ) → segment_end s bs at ≡ Some end → Within (at + 3) (length bs) end
 end_within s bs at end e =
     let w = end_on_within s Start at end (drop at bs) e in
     record { behind = w.behind; inside = let x = w.inside in let y = w.behind in omega (arith, length-drop at bs) }
-
--- ---- the number for an end
-
--- the terminator's place, which is less than the length
-pub end_told : (s : Service) (bs : List ℕ) (at n : ℕ) → n ≡ or_length bs (segment_end s bs at) → n < length bs → segment_end s bs at ≡ At n
-end_told s bs at n e h = go (segment_end s bs at) e
-  where
-    go : (x : End) → n ≡ or_length bs x → x ≡ At n
-    go (At end) i = ap At (sym i)
-    go Nowhere i = absurd (omega arith)
-
--- the length, which is no terminator's place
-pub end_untold : (s : Service) (bs : List ℕ) (at n : ℕ) → n ≡ or_length bs (segment_end s bs at) → length bs ≤ n → segment_end s bs at ≡ Nowhere
-end_untold s bs at n e h = go (segment_end s bs at) refl
-  where
-    go : (x : End) → segment_end s bs at ≡ x → x ≡ Nowhere
-    go (At end) i = let w = (end_within s bs at end i).inside in let j : n ≡ end = e ∙ ap (or_length bs) i in absurd (omega arith)
-    go Nowhere i = refl
 
 -- ---- what a byte is to a segment's text
 
@@ -185,12 +166,12 @@ after_release s b = released_by (eqb b s.release) (eqb b s.component) (eqb b s.e
 
 module _ (s : Service) (bs : List ℕ) where
   end_turn : (p q : State) (at : ℕ) → at < length bs → stepped s p (get_or bs at 0) ≡ q
-      → end_on s p at (drop at bs) ≡ pick (is_start q) (At at) (pick (is_dead q) Nowhere (end_on s q (at + 1) (drop (at + 1) bs)))
+      → end_on s p at (drop at bs) ≡ pick (is_start q) (Some at) (pick (is_dead q) None (end_on s q (at + 1) (drop (at + 1) bs)))
   unfolding end_on
   end_turn p q at h e = rw (drop-cons bs at 0 h, e, add-one at)
 
   -- nothing is left
-  end_out : (p : State) (at : ℕ) → length bs ≤ at → end_on s p at (drop at bs) ≡ Nowhere
+  end_out : (p : State) (at : ℕ) → length bs ≤ at → end_on s p at (drop at bs) ≡ None
   unfolding end_on
   end_out p at h = ap (end_on s p at) (drop_of_length-le bs h)
 
@@ -203,7 +184,7 @@ module _ (s : Service) (bs : List ℕ) where
       → end_on s (held_by opened parted) at (drop at bs) ≡ end_on s (held_by x y) (at + 1) (drop (at + 1) bs)
   held_turn opened parted x y at h e = end_turn (held_by opened parted) (held_by x y) at h (held_step s opened parted (get_or bs at 0) ∙ e) ∙ go x y
     where
-      go : (x y : Bool) → pick (is_start (held_by x y)) (At at) (pick (is_dead (held_by x y)) Nowhere (end_on s (held_by x y) (at + 1) (drop (at + 1) bs)))
+      go : (x y : Bool) → pick (is_start (held_by x y)) (Some at) (pick (is_dead (held_by x y)) None (end_on s (held_by x y) (at + 1) (drop (at + 1) bs)))
           ≡ end_on s (held_by x y) (at + 1) (drop (at + 1) bs)
       go x true = refl
       go true false = refl
@@ -246,23 +227,25 @@ module _ (s : Service) (bs : List ℕ) where
             ap (λ (n : ℕ). eqb (get_or bs n 0) s.component) k
             ∙ sym (ap (λ (y : Bool). pick y (eqb (get_or bs (at + 1 - 1) 0) s.component) x) (lt-ltb from (at + 1) l))
 
+    pub passed_out : (at : ℕ) → length bs ≤ at → Passed s bs from at → PassedOrEnd s bs from None
+    passed_out at h p opened parted = p.same opened parted ∙ end_out (held_by (opened_by from at opened) (marked_by s bs from at parted)) at h
+
   -- ---- what ends a text
 
   module _ (from : ℕ) where
-    abbrev wanted : ℕ
-    wanted = or_length bs (end_on s Opened from (drop from bs))
+    abbrev wanted : Option ℕ
+    wanted = end_on s Opened from (drop from bs)
 
     -- behind an element's mark: what is found from here on is what is found from the beginning
     abbrev pub Ending : Bool → Bool → ℕ → Type 0
-    Ending opened parted at = end_on s (held_by opened parted) at (drop at bs) ≡ end_on s Opened from (drop from bs)
+    Ending opened parted at = end_on s (held_by opened parted) at (drop at bs) ≡ wanted
 
-    pub ending_out : (opened parted : Bool) (at : ℕ) → length bs ≤ at → Ending opened parted at → length bs ≡ wanted
-    ending_out opened parted at h i = ap (or_length bs) (sym (end_out (held_by opened parted) at h) ∙ i)
+    pub ending_out : (opened parted : Bool) (at : ℕ) → length bs ≤ at → Ending opened parted at → None ≡ wanted
+    ending_out opened parted at h i = sym (end_out (held_by opened parted) at h) ∙ i
 
     -- text up to the end
-    pub ending_none : (opened parted : Bool) (next at : ℕ) → Ending opened parted next → Passed s bs next at → length bs ≤ at → length bs ≡ wanted
-    ending_none opened parted next at j p h =
-        ap (or_length bs) (sym (p.same opened parted ∙ end_out (held_by (opened_by next at opened) (marked_by s bs next at parted)) at h) ∙ j)
+    pub ending_none : (opened parted : Bool) (next : ℕ) → Ending opened parted next → PassedOrEnd s bs next None → None ≡ wanted
+    ending_none opened parted next j p = sym (p opened parted) ∙ j
 
     -- text has been passed from `next` on, and at `at` something else stands
     module _ (was-opened was-parted : Bool) (next at : ℕ) (j : Ending was-opened was-parted next) (p : Passed s bs next at) (h : at < length bs) where
@@ -290,7 +273,7 @@ module _ (s : Service) (bs : List ℕ) where
         ending-on known x y is e = sym (held_turn opened parted x y at h (ap (after_held opened parted) (sym k ∙ is) ∙ e)) ∙ i
 
         ending-by : (known : Kind) (q : State) → kind ≡ known → after_held opened parted known ≡ q
-            → pick (is_start q) (At at) (pick (is_dead q) Nowhere (end_on s q (at + 1) (drop (at + 1) bs))) ≡ end_on s Opened from (drop from bs)
+            → pick (is_start q) (Some at) (pick (is_dead q) None (end_on s q (at + 1) (drop (at + 1) bs))) ≡ end_on s Opened from (drop from bs)
         ending-by known q is e =
             sym (end_turn (held_by opened parted) q at h (held_step s opened parted (get_or bs at 0) ∙ ap (after_held opened parted) (sym k ∙ is) ∙ e)) ∙ i
 
@@ -302,24 +285,24 @@ module _ (s : Service) (bs : List ℕ) where
           pub ending_element : marked ≡ false → Ending true false (at + 1)
           ending_element e = ending-on Element true false is (held_element opened parted ∙ ap (λ (x : Bool). pick x Dead Opened) (sym m ∙ e))
 
-          pub ending_parted : marked ≡ true → length bs ≡ wanted
-          ending_parted e = ap (or_length bs) (ending-by Element Dead is (held_element opened parted ∙ ap (λ (x : Bool). pick x Dead Opened) (sym m ∙ e)))
+          pub ending_parted : marked ≡ true → None ≡ wanted
+          ending_parted e = ending-by Element Dead is (held_element opened parted ∙ ap (λ (x : Bool). pick x Dead Opened) (sym m ∙ e))
 
         -- and so may the segment
         module _ (marked : Bool) (m : marked ≡ marked_by s bs next at (was-opened || was-parted)) (is : kind ≡ Terminator) where
-          pub ending_found : marked ≡ false → at ≡ wanted
+          pub ending_found : marked ≡ false → Some at ≡ wanted
           ending_found e =
-              ap (or_length bs) (ending-by Terminator Start is (held_terminator opened parted ∙ ap (λ (x : Bool). pick x Dead Start) (either ∙ sym m ∙ e)))
+              ending-by Terminator Start is (held_terminator opened parted ∙ ap (λ (x : Bool). pick x Dead Start) (either ∙ sym m ∙ e))
 
-          pub ending_marked : marked ≡ true → length bs ≡ wanted
+          pub ending_marked : marked ≡ true → None ≡ wanted
           ending_marked e =
-              ap (or_length bs) (ending-by Terminator Dead is (held_terminator opened parted ∙ ap (λ (x : Bool). pick x Dead Start) (either ∙ sym m ∙ e)))
+              ending-by Terminator Dead is (held_terminator opened parted ∙ ap (λ (x : Bool). pick x Dead Start) (either ∙ sym m ∙ e))
 
         pub ending_plain : kind ≡ Plain → Ending false false (at + 1)
         ending_plain is = ending-on Plain false false is (held_plain opened parted)
 
-        pub ending_bad : kind ≡ Other → length bs ≡ wanted
-        ending_bad is = ap (or_length bs) (ending-by Other Dead is (held_other opened parted))
+        pub ending_bad : kind ≡ Other → None ≡ wanted
+        ending_bad is = ending-by Other Dead is (held_other opened parted)
 
         -- a release: the byte behind it decides
         behind-release : kind ≡ Release → end_on s Released (at + 1) (drop (at + 1) bs) ≡ end_on s Opened from (drop from bs)
@@ -336,11 +319,11 @@ module _ (s : Service) (bs : List ℕ) where
             go true false a b c = absurd (true≢false (sym c))
             go false y a b c = absurd (true≢false (sym c))
 
-        pub ending_unreleased : kind ≡ Release → (ltb (at + 1) (length bs) && must_release s (get_or bs (at + 1) 0)) ≡ false → length bs ≡ wanted
-        ending_unreleased is e = ap (or_length bs) (sym (go (ltb (at + 1) (length bs)) (must_release s (get_or bs (at + 1) 0)) refl refl e) ∙ behind-release is)
+        pub ending_unreleased : kind ≡ Release → (ltb (at + 1) (length bs) && must_release s (get_or bs (at + 1) 0)) ≡ false → None ≡ wanted
+        ending_unreleased is e = sym (go (ltb (at + 1) (length bs)) (must_release s (get_or bs (at + 1) 0)) refl refl e) ∙ behind-release is
           where
             go : (x y : Bool) → ltb (at + 1) (length bs) ≡ x → must_release s (get_or bs (at + 1) 0) ≡ y → (x && y) ≡ false
-                → end_on s Released (at + 1) (drop (at + 1) bs) ≡ Nowhere
+                → end_on s Released (at + 1) (drop (at + 1) bs) ≡ None
             go true true a b c = absurd (true≢false c)
             go true false a b c =
                 end_turn Released Dead (at + 1) (ltb-true _ _ a) (after_release s (get_or bs (at + 1) 0) ∙ ap (λ (z : Bool). pick z Inside Dead) b)
@@ -350,16 +333,15 @@ module _ (s : Service) (bs : List ℕ) where
 
   module _ (at : ℕ) (h : at + 4 ≤ length bs) (tag : segment_end s bs at ≡ end_on s Tagged (at + 3) (drop (at + 3) bs))
       (kind : Kind) (k : kind ≡ kind_of s (get_or bs (at + 3) 0)) where
-    pub tagged_opened : kind ≡ Element → (n : ℕ) → n ≡ or_length bs (end_on s Opened (at + 4) (drop (at + 4) bs)) → n ≡ or_length bs (segment_end s bs at)
-    tagged_opened is n e =
-        e ∙ ap (or_length bs)
-        (sym (tag ∙ end_turn Tagged Opened (at + 3) (omega arith) (ap after_tagged (sym k ∙ is)) ∙ end_at Opened (at + 3 + 1) (at + 4) (omega arith)))
+    pub tagged_opened : kind ≡ Element → (end : Option ℕ) → end ≡ end_on s Opened (at + 4) (drop (at + 4) bs) → end ≡ segment_end s bs at
+    tagged_opened is end e =
+        e ∙ sym (tag ∙ end_turn Tagged Opened (at + 3) (omega arith) (ap after_tagged (sym k ∙ is)) ∙ end_at Opened (at + 3 + 1) (at + 4) (omega arith))
 
-    pub tagged_found : kind ≡ Terminator → at + 3 ≡ or_length bs (segment_end s bs at)
-    tagged_found is = ap (or_length bs) (sym (tag ∙ end_turn Tagged Start (at + 3) (omega arith) (ap after_tagged (sym k ∙ is))))
+    pub tagged_found : kind ≡ Terminator → Some (at + 3) ≡ segment_end s bs at
+    tagged_found is = sym (tag ∙ end_turn Tagged Start (at + 3) (omega arith) (ap after_tagged (sym k ∙ is)))
 
-    pub tagged_bad : (known : Kind) → kind ≡ known → after_tagged known ≡ Dead → length bs ≡ or_length bs (segment_end s bs at)
-    tagged_bad known is e = ap (or_length bs) (sym (tag ∙ end_turn Tagged Dead (at + 3) (omega arith) (ap after_tagged (sym k ∙ is) ∙ e)))
+    pub tagged_bad : after_tagged kind ≡ Dead → None ≡ segment_end s bs at
+    tagged_bad e = sym (tag ∙ end_turn Tagged Dead (at + 3) (omega arith) (ap after_tagged (sym k) ∙ e))
 
 -- ---- a tag
 
@@ -375,9 +357,9 @@ module _ (bs : List ℕ) (at : ℕ) where
   pub tag_short : length bs < at + 4 → TagOrNone bs at false
   tag_short h s = go (segment_end s bs at) refl
     where
-      go : (x : End) → segment_end s bs at ≡ x → x ≡ Nowhere
-      go (At end) i = let w = end_within s bs at end i in let a = w.behind in let b = w.inside in absurd (omega arith)
-      go Nowhere i = refl
+      go : (x : Option ℕ) → segment_end s bs at ≡ x → x ≡ None
+      go (Some end) i = let w = end_within s bs at end i in let a = w.behind in let b = w.inside in absurd (omega arith)
+      go None i = refl
 
   module _ (h : at + 4 ≤ length bs) where
     pub tag_bad_first : is_tag_byte (get_or bs at 0) ≡ false → TagOrNone bs at false
@@ -404,3 +386,12 @@ module _ (bs : List ℕ) (at : ℕ) where
               ∙ end_at s bs Tagged (at + 2 + 1) (at + 3) (omega arith),
         )
         tag_third false e = λ s. to-third s ∙ end_turn s bs Third Dead (at + 2) (omega arith) (ap (λ (t : Bool). after_tag t Tagged) (sym e))
+
+-- ---- for the functions that they are about
+
+pub ruleset tag_steps = (tag_short, tag_bad_first, tag_bad_second, tag_third)
+
+pub ruleset tagged_steps = (tag_there, tag_missing, tagged_opened, tagged_found, tagged_bad)
+
+pub ruleset ending_steps =
+    (ending_none, ending_component, ending_element, ending_parted, ending_found, ending_marked, ending_released, ending_unreleased, ending_plain, ending_bad, ending_out)

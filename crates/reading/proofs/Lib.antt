@@ -6,4 +6,3 @@ pub mod Scanning
 pub mod Starts
 pub mod Seeking
 pub mod Comparing
-pub mod Tags

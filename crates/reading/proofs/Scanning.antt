@@ -8,12 +8,12 @@ use mathlib.Core.Bool.{Bool, true, false}
 use lib.ListN.{length, get_or, drop, drop_of_length-le}
 use lib.Seq.{drop-cons, drop-drop}
 use borrow.Author.Tests.{lt-ltb}
+use Rattle.std.specs.Prelude.{Some, None}
 use Rattle.reading.specs.method.Machine.{pick, stepped, is_start, is_dead, ended, finished, scan_on, scanned, bad_on, bad_from, end_on, segment_end}
 use Rattle.reading.specs.declared.service.Service.{Service}
 use Rattle.reading.specs.declared.machine.State.{State}
 use Rattle.reading.specs.declared.machine.State.TheVariants.{Start}
 use Rattle.reading.specs.method.Outcome.{Segments, BadAt}
-use Rattle.reading.specs.declared.cursor.End.TheVariants.{At, Nowhere}
 use Rattle.reading.proofs.States.{Course, ends, goes_on, fails, course}
 use Rattle.reading.proofs.Ending.{at_is, not_at, end_on_within, end_within}
 
@@ -27,24 +27,24 @@ segments_is e = cc
 
 -- ---- over a segment
 
-at_nowhere : {n : ℕ} → At n ≡ Nowhere → ⊥
+at_nowhere : {n : ℕ} → Some n ≡ None → ⊥
 at_nowhere e = not_at (sym e)
 
-scan_over : (s : Service) (p : State) (n at end : ℕ) (bs : List ℕ) → end_on s p at bs ≡ At end
+scan_over : (s : Service) (p : State) (n at end : ℕ) (bs : List ℕ) → end_on s p at bs ≡ Some end
     → scan_on s p n at bs ≡ scan_on s Start (n + 1) (end + 1) (drop (end + 1 - at) bs)
 unfolding scan_on end_on
 scan_over s p n at end [] e = absurd (not_at e)
 scan_over s p n at end (b ∷ bs) e = go (course (stepped s p b)) (λ q. scan_over s q n (at + 1) end bs) e
   where
-    on : (q : State) → end_on s q (at + 1) bs ≡ At end → drop (end + 1 - (at + 1)) bs ≡ drop (end + 1 - at) (b ∷ bs)
+    on : (q : State) → end_on s q (at + 1) bs ≡ Some end → drop (end + 1 - (at + 1)) bs ≡ drop (end + 1 - at) (b ∷ bs)
     on q h =
         let w = (end_on_within s q (at + 1) end bs h).behind in
         let k : end + 1 - at ≡ suc (end + 1 - (at + 1)) = omega arith in
         sym (ap (λ (m : ℕ). drop m (b ∷ bs)) k)
 
     go : {q : State} → Course q
-        → ((x : State) → end_on s x (at + 1) bs ≡ At end → scan_on s x n (at + 1) bs ≡ scan_on s Start (n + 1) (end + 1) (drop (end + 1 - (at + 1)) bs))
-        → pick (is_start q) (At at) (pick (is_dead q) Nowhere (end_on s q (at + 1) bs)) ≡ At end
+        → ((x : State) → end_on s x (at + 1) bs ≡ Some end → scan_on s x n (at + 1) bs ≡ scan_on s Start (n + 1) (end + 1) (drop (end + 1 - (at + 1)) bs))
+        → pick (is_start q) (Some at) (pick (is_dead q) None (end_on s q (at + 1) bs)) ≡ Some end
         → pick (is_dead q) (BadAt at) (scan_on s q (ended q n) (at + 1) bs) ≡ scan_on s Start (n + 1) (end + 1) (drop (end + 1 - at) (b ∷ bs))
     go ends ih h =
         let x : at ≡ end = at_is h in
@@ -56,21 +56,21 @@ scan_over s p n at end (b ∷ bs) e = go (course (stepped s p b)) (λ q. scan_ov
 -- ---- where no segment ends
 
 -- behind a byte that does not end the segment
-scan_bad_behind : (s : Service) {q : State} → Course q → (n at : ℕ) (bs : List ℕ) → pick (is_start q) (At at) (pick (is_dead q) Nowhere (end_on s q (at + 1) bs)) ≡ Nowhere
-    → ((x : State) → is_start x ≡ false → end_on s x (at + 1) bs ≡ Nowhere → scan_on s x n (at + 1) bs ≡ BadAt (bad_on s x (at + 1) bs))
+scan_bad_behind : (s : Service) {q : State} → Course q → (n at : ℕ) (bs : List ℕ) → pick (is_start q) (Some at) (pick (is_dead q) None (end_on s q (at + 1) bs)) ≡ None
+    → ((x : State) → is_start x ≡ false → end_on s x (at + 1) bs ≡ None → scan_on s x n (at + 1) bs ≡ BadAt (bad_on s x (at + 1) bs))
     → pick (is_dead q) (BadAt at) (scan_on s q (ended q n) (at + 1) bs) ≡ BadAt (pick (is_dead q) at (bad_on s q (at + 1) bs))
 scan_bad_behind s ends n at bs h ih = absurd (at_nowhere h)
 scan_bad_behind s (goes_on t d) n at bs h ih = rw (t, d) (ih _ t (rw (t, d) at h))
 scan_bad_behind s fails n at bs h ih = refl
 
 -- and none has ended here
-scan_bad : (s : Service) (p : State) (n at : ℕ) (bs : List ℕ) → is_start p ≡ false → end_on s p at bs ≡ Nowhere → scan_on s p n at bs ≡ BadAt (bad_on s p at bs)
+scan_bad : (s : Service) (p : State) (n at : ℕ) (bs : List ℕ) → is_start p ≡ false → end_on s p at bs ≡ None → scan_on s p n at bs ≡ BadAt (bad_on s p at bs)
 unfolding scan_on end_on bad_on
 scan_bad s p n at [] t e = rw t refl
 scan_bad s p n at (b ∷ bs) t e = scan_bad_behind s (course (stepped s p b)) n at bs e (λ x. scan_bad s x n (at + 1) bs)
 
 -- a byte at least
-scan_bad_first : (s : Service) (p : State) (n at b : ℕ) (bs : List ℕ) → end_on s p at (b ∷ bs) ≡ Nowhere → scan_on s p n at (b ∷ bs) ≡ BadAt (bad_on s p at (b ∷ bs))
+scan_bad_first : (s : Service) (p : State) (n at b : ℕ) (bs : List ℕ) → end_on s p at (b ∷ bs) ≡ None → scan_on s p n at (b ∷ bs) ≡ BadAt (bad_on s p at (b ∷ bs))
 unfolding scan_on end_on bad_on
 scan_bad_first s p n at b bs e = scan_bad_behind s (course (stepped s p b)) n at bs e (λ x. scan_bad s x n (at + 1) bs)
 
@@ -84,7 +84,7 @@ module _ (s : Service) (bs : List ℕ) where
   pub scanning_begin : Scanning s bs 0 0
   scanning_begin = record { few = omega arith; same = refl }
 
-  pub scanning_on : (n at end : ℕ) → Scanning s bs n at → segment_end s bs at ≡ At end → Scanning s bs (n + 1) (end + 1)
+  pub scanning_on : (n at end : ℕ) → Scanning s bs n at → segment_end s bs at ≡ Some end → Scanning s bs (n + 1) (end + 1)
   scanning_on n at end i e =
       let w = (end_within s bs at end e).behind in
       let f = i.few in
@@ -96,7 +96,7 @@ module _ (s : Service) (bs : List ℕ) where
         same = sym (scan_over s Start n at end (drop at bs) e ∙ ap (scan_on s Start (n + 1) (end + 1)) rest) ∙ i.same;
       }
 
-  pub scanning_bad : (n at : ℕ) → at < length bs → Scanning s bs n at → segment_end s bs at ≡ Nowhere → BadAt (bad_from s bs at) ≡ scanned s bs
+  pub scanning_bad : (n at : ℕ) → at < length bs → Scanning s bs n at → segment_end s bs at ≡ None → BadAt (bad_from s bs at) ≡ scanned s bs
   scanning_bad n at h i e =
       let cut = drop-cons bs at 0 h in
       sym

@@ -9,7 +9,8 @@ use mathlib.Core.Logic.{◌⊎◌, inl, inr, ⊎_elim}
 use lib.Dec.{eqb}
 use lib.ListN.{length, get_or, drop, drop_of_length-le, length-drop}
 use lib.Seq.{drop-cons}
-use borrow.Author.Tests.{eq-eqb, ne_eqb}
+use borrow.Author.Tests.{ne_eqb}
+use Rattle.std.specs.Prelude.{Option, Some, None}
 use Rattle.reading.specs.meaning.Service.{is_data, must_release}
 use Rattle.reading.specs.meaning.Component.{span}
 use Rattle.reading.specs.method.Machine.{Seek, Sought, On, Ends, pick, kind_of, seek, is_here, ends_component, passed, sought, go_on, seek_on, seek_from, span_by, component_span, segment_end}
@@ -17,8 +18,6 @@ use Rattle.reading.specs.declared.service.Service.{Service}
 use Rattle.reading.specs.declared.span.Span.{Span}
 use Rattle.reading.specs.declared.bytes.Kind.{Kind}
 use Rattle.reading.specs.declared.bytes.Kind.TheVariants.{Component, Element, Terminator, Release, Plain, Other}
-use Rattle.reading.specs.declared.cursor.End.{End}
-use Rattle.reading.specs.declared.cursor.End.TheVariants.{At, Nowhere}
 use Rattle.reading.proofs.Ending.{end_within}
 
 -- ---- what a search makes of a span, once the tests are known
@@ -33,14 +32,11 @@ module _ (s : Service) (bs : List ℕ) (at e c : ℕ) where
   abbrev by_element : Bool → Span
   by_element is_zero = pick is_zero at_end (by_component (eqb c 0))
 
-  pub span_element_zero : (x : Span) → e ≡ 0 → x ≡ at_end → x ≡ component_span s bs at e c
-  span_element_zero x z h = h ∙ sym (ap by_element (eq-eqb e 0 z))
-
-  pub span_component_zero : (x : Span) → (e ≡ 0 → ⊥) → c ≡ 0 → x ≡ at_end → x ≡ component_span s bs at e c
-  span_component_zero x n z h = h ∙ sym (ap by_element (ne_eqb e 0 n) ∙ ap by_component (eq-eqb c 0 z))
-
-  pub span_by_end : (x : Span) → (e ≡ 0 → ⊥) → (c ≡ 0 → ⊥) → (end : End) → segment_end s bs at ≡ end → x ≡ span_by s bs at e c end → x ≡ component_span s bs at e c
+  pub span_by_end : (x : Span) → (e ≡ 0 → ⊥) → (c ≡ 0 → ⊥) → (end : Option ℕ) → segment_end s bs at ≡ end → x ≡ span_by s bs at e c end → x ≡ component_span s bs at e c
   span_by_end x n m end i h = h ∙ sym (ap by_element (ne_eqb e 0 n) ∙ ap by_component (ne_eqb c 0 m) ∙ ap (span_by s bs at e c) i)
+
+ends_of : (kind : Kind) → (kind ≡ Component) ⊎ ((kind ≡ Element) ⊎ (kind ≡ Terminator)) → ends_component kind ≡ true
+ends_of kind is = ⊎_elim (ap ends_component) (⊎_elim (ap ends_component) (ap ends_component)) is
 
 -- ---- a search keeps within what it has read
 
@@ -102,9 +98,6 @@ pub record Seeking (s : Service) (bs : List ℕ) (from e c : ℕ) (k : Seek) (at
   pub same : seek_on s e c k at (drop at bs) ≡ seek_from s bs from e c
 
 module _ (s : Service) (bs : List ℕ) (from e c : ℕ) where
-  pub seeking_begin : Seeking s bs from e c (seek 0 0 from false) from
-  seeking_begin = record { kept = record { element_few = omega arith; component_few = omega arith; started = omega arith }; same = refl }
-
   seeking_turn : (k : Seek) (at : ℕ) (kind : Kind) (r : Sought) → at < length bs → Seeking s bs from e c k at → kind ≡ kind_of s (get_or bs at 0) → r ≡ sought e c k at kind
       → seek_from s bs from e c ≡ go_on r (λ next. seek_on s e c next (at + 1) (drop (at + 1) bs))
   unfolding seek_on
@@ -169,11 +162,11 @@ module _ (s : Service) (bs : List ℕ) (from e c : ℕ) where
       seek_text t = ⊎_elim (λ p. seek_plain (ek ∙ p)) (λ p. seek_other (ek ∙ p)) (unmarked s (get_or bs at 0) t)
 
       -- the one that is sought ends; and at the terminator an absent one lies
-      pub seek_found : (known : Kind) → kind ≡ known → ends_component known ≡ true → (eqb ea e && eqb ca c) ≡ true → span st at ≡ seek_from s bs from e c
+      pub seek_found : (kind ≡ Component) ⊎ ((kind ≡ Element) ⊎ (kind ≡ Terminator)) → (eqb ea e && eqb ca c) ≡ true → span st at ≡ seek_from s bs from e c
       unfolding is_here
-      seek_found known is ends here =
+      seek_found is here =
           seeking_lies (seek ea ca st false) at kind (span st at) h i ek
-          (sym (ap (sought e c (seek ea ca st false) at) is ∙ ap₂ (λ (t u : Bool). pick (t && u) (Ends (span st at)) (passed (seek ea ca st false) at known)) ends here))
+          (sym (ap₂ (λ (t u : Bool). pick (t && u) (Ends (span st at)) (passed (seek ea ca st false) at kind)) (ends_of kind is) here))
 
       pub seek_absent : (x : Span) → kind ≡ Terminator → (eqb ea e && eqb ca c) ≡ false → x ≡ span at at → x ≡ seek_from s bs from e c
       unfolding is_here
@@ -207,11 +200,11 @@ span_inside s bs at e c = zero_element (eqb e 0)
     outside : Inside (length bs) (span (length bs) (length bs))
     outside = record { ordered = omega arith; within = omega arith }
 
-    by_end : (x : End) → segment_end s bs at ≡ x → Inside (length bs) (span_by s bs at e c x)
-    by_end (At end) h =
+    by_end : (x : Option ℕ) → segment_end s bs at ≡ x → Inside (length bs) (span_by s bs at e c x)
+    by_end (Some end) h =
         let w = end_within s bs at end h in
         seek_inside s bs (at + 3) e c (let y = w.behind in let z = w.inside in omega arith)
-    by_end Nowhere h = outside
+    by_end None h = outside
 
     zero_component : (t : Bool) → Inside (length bs) (by_component s bs at e c t)
     zero_component true = outside
@@ -220,3 +213,6 @@ span_inside s bs at e c = zero_element (eqb e 0)
     zero_element : (t : Bool) → Inside (length bs) (by_element s bs at e c t)
     zero_element true = outside
     zero_element false = zero_component (eqb c 0)
+
+-- how a search ends
+pub ruleset search_ends = (seek_found, seek_absent, seeking_out)

@@ -3,10 +3,11 @@ use Prim.Native.Nat.{ℕ, zero, suc, ◌+◌, ◌-◌, ◌≤◌, ◌<◌, ◌^�
 use native.Mathlib.Omega.{arith}
 use mathlib.Core.Path.{◌≡◌, refl, sym, ap, ap₂, ◌∙◌}
 use mathlib.Core.List.{List, [], ◌∷◌, map}
-use mathlib.Core.Bool.{Bool, true, false, true≢false}
+use mathlib.Core.Bool.{Bool, true, false}
 use lib.Dec.{leb, eqb}
 use lib.ListN.{length}
 use borrow.Author.Tests.{leb-true, leb-false, eqb-true, eqb-false}
+use Rattle.std.specs.Prelude.{Option, Some, None}
 use Rattle.reading.specs.meaning.Component.{span}
 use Rattle.reading.specs.method.Outcome.{Segments}
 use Rattle.reading.specs.method.Machine.{segment_end, found_by, next_segment, scanned}
@@ -14,10 +15,6 @@ use Rattle.reading.specs.method.Starts.{starts_then, starts_from}
 use Rattle.reading.specs.declared.service.Service.{Service}
 use Rattle.reading.specs.declared.span.Span.{Span}
 use Rattle.reading.specs.declared.cursor.Cursor.{Cursor}
-use Rattle.reading.specs.declared.cursor.End.{End}
-use Rattle.reading.specs.declared.cursor.End.TheVariants.{At, Nowhere}
-use Rattle.reading.specs.declared.cursor.Found.{Found}
-use Rattle.reading.specs.declared.cursor.Found.TheVariants as found
 use Rattle.reading.proofs.Ending.{end_within}
 use Rattle.reading.proofs.Scanning.{bad_segments, segments_is, Scanning, scanning_begin, scanning_on, scanning_bad, scanning_empty, scanning_end}
 
@@ -29,30 +26,26 @@ pub one_less : (x end : ℕ) → x < end → end - x ≡ suc (end - (x + 1))
 one_less x end h = omega arith
 
 -- a segment that is found has its tag within the message
-pub found_within : (s : Service) (bs : List ℕ) (at : ℕ) (x : Span) (next : Cursor) → found.Segment x next ≡ next_segment s bs at → at + 3 ≤ length bs
+pub found_within : (s : Service) (bs : List ℕ) (at : ℕ) (x : Span) (next : Cursor) → Some (x, next) ≡ next_segment s bs at → at + 3 ≤ length bs
 found_within s bs at x next e = go (segment_end s bs at) refl e
   where
-    is_found : Found → Bool
-    is_found (found.Segment y after) = true
-    is_found found.Nothing = false
-
-    go : (end : End) → segment_end s bs at ≡ end → found.Segment x next ≡ found_by at end → at + 3 ≤ length bs
-    go (At end) i h = let w = end_within s bs at end i in let a = w.behind in let b = w.inside in omega arith
-    go Nowhere i h = absurd (true≢false (ap is_found h))
+    go : (end : Option ℕ) → segment_end s bs at ≡ end → Some (x, next) ≡ found_by at end → at + 3 ≤ length bs
+    go (Some end) i h = let w = end_within s bs at end i in let a = w.behind in let b = w.inside in omega arith
+    go None i h = cc
 
 module _ (s : Service) (bs : List ℕ) where
   -- ---- the segments that are left, where k of n have been passed
 
-  pub starts_found : (k n at : ℕ) (x : Span) (next : Cursor) → k < n → found.Segment x next ≡ next_segment s bs at
+  pub starts_found : (k n at : ℕ) (x : Span) (next : Cursor) → k < n → Some (x, next) ≡ next_segment s bs at
       → starts_from s bs (n - k) at ≡ at ∷ starts_from s bs (n - (k + 1)) next.at
   unfolding starts_from
   starts_found k n at x next h e =
-      ap (λ (m : ℕ). starts_from s bs m at) (one_less k n h) ∙ ap (λ (f : Found). starts_then f (starts_from s bs (n - (k + 1))) at) (sym e)
+      ap (λ (m : ℕ). starts_from s bs m at) (one_less k n h) ∙ ap (λ (f : Option (Span × Cursor)). starts_then f (starts_from s bs (n - (k + 1))) at) (sym e)
 
-  pub no_starts : (m at : ℕ) → found.Nothing ≡ next_segment s bs at → starts_from s bs m at ≡ []
+  pub no_starts : (m at : ℕ) → None ≡ next_segment s bs at → starts_from s bs m at ≡ []
   unfolding starts_from
   no_starts zero at e = refl
-  no_starts (suc m) at e = ap (λ (f : Found). starts_then f (starts_from s bs m) at) (sym e)
+  no_starts (suc m) at e = ap (λ (f : Option (Span × Cursor)). starts_then f (starts_from s bs m) at) (sym e)
 
   pub starts_end : (k n at : ℕ) → n ≤ k → starts_from s bs (n - k) at ≡ []
   unfolding starts_from
@@ -77,14 +70,14 @@ module _ (s : Service) (bs : List ℕ) where
       → ((end : ℕ) → at < end + 1 → Scanning s bs (n + 1) (end + 1) → AsMany (n + 1) (end + 1) m) → AsMany n at m
   counted_on n at m h i e later = go (segment_end s bs at) refl
     where
-      go : (x : End) → segment_end s bs at ≡ x → AsMany n at m
-      go (At end) y =
+      go : (x : Option ℕ) → segment_end s bs at ≡ x → AsMany n at m
+      go (Some end) y =
           let w = (end_within s bs at end y).behind in
           let r = later end (omega arith) (scanning_on s bs n at end i y) in
           let few = r.0 in
           let starts = starts_found n m at (span at end) (record { at = end + 1 }) (omega arith) (sym (ap (found_by at) y)) in
           (omega arith, ap length starts ∙ ap suc r.1 ∙ omega arith)
-      go Nowhere y = absurd (bad_segments (scanning_bad s bs n at h i y ∙ sym e))
+      go None y = absurd (bad_segments (scanning_bad s bs n at h i y ∙ sym e))
 
   -- the fuel is what is left of the bytes
   counted : (fuel n at m : ℕ) → length bs - at ≤ fuel → Scanning s bs n at → Segments m ≡ scanned s bs → AsMany n at m
@@ -104,13 +97,13 @@ module _ (s : Service) (bs : List ℕ) where
   -- ---- they are offsets of the message, so small numbers where it is short
 
   -- one of them, and those behind it
-  small_then : length bs ≤ 2 ^ 32 → (at : ℕ) (more : ℕ → List ℕ) → ((next : ℕ) → map (λ x. x % 2 ^ 32) (more next) ≡ more next) → (f : Found) → f ≡ next_segment s bs at
+  small_then : length bs ≤ 2 ^ 32 → (at : ℕ) (more : ℕ → List ℕ) → ((next : ℕ) → map (λ x. x % 2 ^ 32) (more next) ≡ more next) → (f : Option (Span × Cursor)) → f ≡ next_segment s bs at
       → map (λ x. x % 2 ^ 32) (starts_then f more at) ≡ starts_then f more at
-  small_then h at more all (found.Segment x next) e =
+  small_then h at more all (Some (x, next)) e =
       let w = found_within s bs at x next e in
       let small : at % 2 ^ 32 ≡ at = omega arith in
       ap₂ (λ (y : ℕ) (ys : List ℕ). y ∷ ys) small (all next.at)
-  small_then h at more all found.Nothing e = refl
+  small_then h at more all None e = refl
 
   pub starts_small : length bs ≤ 2 ^ 32 → (n at : ℕ) → map (λ x. x % 2 ^ 32) (starts_from s bs n at) ≡ starts_from s bs n at
   unfolding starts_from

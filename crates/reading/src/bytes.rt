@@ -7,7 +7,7 @@ ghost use Rattle.reading.specs.method.Machine.{kind_of, is_text};
 use crate::service::Service;
 
 // What a byte is, under given service characters.
-#[derive(Clone, Copy)]
+#[derive(Clone, Copy, PartialEq, Eq, Debug)]
 pub enum Kind {
     Component,
     Element,
@@ -17,101 +17,65 @@ pub enum Kind {
     Other,
 }
 
+#[tactic(auto, unfolding(crate::specs::meaning::Service::is_data))]
 pub fn is_data(byte: u8) -> bool
     ensures { result ≡ is_data byte }
 {
-    if byte < 0x20 {
-        return false;
-    }
-    if byte <= 0x7e {
-        return true;
-    }
-    if byte < 0xa0 {
-        return false;
-    }
-    true
+    matches!(byte, 0x20..=0x7e | 0xa0..=0xff)
 }
 
+#[tactic(auto, unfolding(crate::specs::meaning::Service::is_tag_byte))]
 pub fn is_tag_byte(byte: u8) -> bool
     ensures { result ≡ is_tag_byte byte }
 {
-    if byte < b'0' {
-        return false;
-    }
-    if byte <= b'9' {
-        return true;
-    }
-    if byte < b'A' {
-        return false;
-    }
-    if byte <= b'Z' {
-        return true;
-    }
-    false
+    matches!(byte, b'0'..=b'9' | b'A'..=b'Z')
 }
 
+#[tactic(auto, unfolding(crate::specs::meaning::Digit::is_digit))]
 pub fn is_digit(byte: u8) -> bool
     ensures { result ≡ is_digit byte }
 {
-    if byte < b'0' {
-        return false;
-    }
-    byte <= b'9'
+    matches!(byte, b'0'..=b'9')
 }
 
+#[tactic(auto, unfolding(crate::specs::method::Machine::kind_of))]
 pub fn kind_of(service: Service, byte: u8) -> Kind
     ensures { result ≡ kind_of service byte }
 {
     if byte == service.release {
-        return Kind::Release;
+        Kind::Release
+    } else if byte == service.component {
+        Kind::Component
+    } else if byte == service.element {
+        Kind::Element
+    } else if byte == service.terminator {
+        Kind::Terminator
+    } else if is_data(byte) {
+        Kind::Plain
+    } else {
+        Kind::Other
     }
-    if byte == service.component {
-        return Kind::Component;
-    }
-    if byte == service.element {
-        return Kind::Element;
-    }
-    if byte == service.terminator {
-        return Kind::Terminator;
-    }
-    if is_data(byte) {
-        return Kind::Plain;
-    }
-    Kind::Other
 }
 
 // Is it ASCII that ends neither an element nor a segment and releases nothing? Most bytes of a message are, component marks among them.
 // Bytes above 0x7E may be data too and are asked for their kind: one test less for all others.
+#[tactic(auto, unfolding(crate::specs::method::Machine::is_text))]
 pub fn is_text(service: Service, byte: u8) -> bool
     ensures { result ≡ is_text service byte }
 {
-    if byte < 0x20 {
-        return false;
-    }
-    if 0x7e < byte {
-        return false;
-    }
-    if byte == service.terminator {
-        return false;
-    }
-    if byte == service.element {
-        return false;
-    }
-    byte != service.release
+    matches!(byte, 0x20..=0x7e)
+        && byte != service.terminator
+        && byte != service.element
+        && byte != service.release
 }
 
 // Does the byte stand for itself only behind a release? Few bytes of a message do.
+#[tactic(auto, unfolding(crate::specs::meaning::Service::must_release))]
 pub fn must_release(service: Service, byte: u8) -> bool
     ensures { result ≡ must_release service byte }
 {
-    if byte == service.release {
-        return true;
-    }
-    if byte == service.component {
-        return true;
-    }
-    if byte == service.element {
-        return true;
-    }
-    byte == service.terminator
+    byte == service.release
+        || byte == service.component
+        || byte == service.element
+        || byte == service.terminator
 }

@@ -7,15 +7,5 @@ ghost use Rattle.reading.specs.meaning.Component.{same_component};
 pub fn same_component(left: &[u8], right: &[u8]) -> bool
     ensures { result ≡ same_component left.now right.now }
 {
-    if left.len() != right.len() {
-        return false;
-    }
-    let mut at = 0;
-    while at < left.len() {
-        if left[at] != right[at] {
-            return false;
-        }
-        at += 1;
-    }
-    true
+    left == right
 }

@@ -4,24 +4,21 @@ ghost use Rattle.reading.specs.method.Machine.{seek_from, component_span};
 ghost use Rattle.reading.specs.method.Part.{IsComponent};
 
 use crate::bytes::Kind;
-use crate::cursor::End;
 use crate::service::Service;
 use crate::span::Span;
-use crate::{bytes, cursor};
+use crate::{bytes, segment};
 
 // Is the component that is being read the one that is sought? So many elements and components have been opened.
 fn is_here(elements: usize, components: usize, element: usize, component: usize) -> bool
     ensures { result ≡ (eqb elements element && eqb components component) }
 {
-    if elements == element {
-        return components == component;
-    }
-    false
+    elements == element && components == component
 }
 
 // Seeks a component from the byte behind a segment's tag on. An absent one lies at the terminator. How many
 // elements and components have been opened, where the component starts, and whether the next byte is released, are locals of
 // their own: as one struct they would go through memory at every byte.
+#[tactic(auto, using(crate::proofs::Seeking::search_ends))]
 pub fn seek_from(
     service: Service,
     message: &[u8],
@@ -35,11 +32,8 @@ pub fn seek_from(
     let mut components: usize = 0;
     let mut start = from;
     let mut released = false;
-    let mut position = from;
-    while position < message.len() {
-        let at = position;
+    for at in from..message.len() {
         let byte = message[at];
-        position += 1;
         if released {
             released = false;
         } else if bytes::must_release(service, byte) {
@@ -49,7 +43,7 @@ pub fn seek_from(
                         return Span { start, end: at };
                     }
                     components += 1;
-                    start = position;
+                    start = at + 1;
                 }
                 Kind::Element => {
                     if is_here(elements, components, element, component) {
@@ -57,7 +51,7 @@ pub fn seek_from(
                     }
                     elements += 1;
                     components = 1;
-                    start = position;
+                    start = at + 1;
                 }
                 Kind::Terminator => {
                     if is_here(elements, components, element, component) {
@@ -65,18 +59,16 @@ pub fn seek_from(
                     }
                     return Span::empty_at(at);
                 }
-                Kind::Release => {
-                    released = true;
-                }
-                Kind::Plain => {}
-                Kind::Other => {}
+                Kind::Release => released = true,
+                Kind::Plain | Kind::Other => {}
             }
         }
     }
-    Span::empty_at(position)
+    Span::empty_at(from.max(message.len()))
 }
 
 // Where a component lies. Without such a segment, and for a number 0, the empty part at the message's end.
+#[tactic(auto, using(crate::proofs::Ending::end_within))]
 pub fn component_span(
     service: Service,
     message: &[u8],
@@ -87,19 +79,17 @@ pub fn component_span(
     ensures { result ≡ component_span service message.now at element component }
 {
     let nowhere = Span::empty_at(message.len());
-    if element == 0 {
+    if element == 0 || component == 0 {
         return nowhere;
     }
-    if component == 0 {
-        return nowhere;
-    }
-    match cursor::segment_end(service, message, at) {
-        End::At(_) => seek_from(service, message, at + 3, element, component),
-        End::Nowhere => nowhere,
+    match segment::find_end(service, message, at) {
+        Some(_) => seek_from(service, message, at + 3, element, component),
+        None => nowhere,
     }
 }
 
 // The component as a part of the message itself, release bytes included.
+#[tactic(auto, using(crate::proofs::Seeking::span_inside))]
 pub fn find_component(
     service: Service,
     message: &[u8],
@@ -110,7 +100,5 @@ pub fn find_component(
     ensures { IsComponent service message.entry at element component result }
 {
     let span = component_span(service, message, at, element, component);
-    let start = span.start;
-    let end = span.end;
-    &message[start..end]
+    &message[span.start..span.end]
 }

@@ -9,7 +9,7 @@ use crate::service::Service;
 
 // Where reading stands: before the tag's first, second and third byte, after the tag, right behind the mark that opens an element,
 // right behind one that parts two components, behind data, after a release, or past a fault, from where nothing leads back.
-#[derive(Clone, Copy)]
+#[derive(Clone, Copy, PartialEq, Eq, Debug)]
 pub enum State {
     Start,
     Second,
@@ -26,21 +26,19 @@ fn after_tag(byte: u8, next: State) -> State
     ensures { result ≡ after_tag (is_tag_byte byte) next }
 {
     if bytes::is_tag_byte(byte) {
-        return next;
+        next
+    } else {
+        State::Dead
     }
-    State::Dead
 }
 
 fn after_tagged(kind: Kind) -> State
     ensures { result ≡ after_tagged kind }
 {
     match kind {
-        Kind::Component => State::Dead,
         Kind::Element => State::Opened,
         Kind::Terminator => State::Start,
-        Kind::Release => State::Dead,
-        Kind::Plain => State::Dead,
-        Kind::Other => State::Dead,
+        Kind::Component | Kind::Release | Kind::Plain | Kind::Other => State::Dead,
     }
 }
 
@@ -51,10 +49,9 @@ fn after_opened(kind: Kind) -> State
     match kind {
         Kind::Component => State::Parted,
         Kind::Element => State::Opened,
-        Kind::Terminator => State::Dead,
         Kind::Release => State::Released,
         Kind::Plain => State::Inside,
-        Kind::Other => State::Dead,
+        Kind::Terminator | Kind::Other => State::Dead,
     }
 }
 
@@ -64,11 +61,9 @@ fn after_parted(kind: Kind) -> State
 {
     match kind {
         Kind::Component => State::Parted,
-        Kind::Element => State::Dead,
-        Kind::Terminator => State::Dead,
         Kind::Release => State::Released,
         Kind::Plain => State::Inside,
-        Kind::Other => State::Dead,
+        Kind::Element | Kind::Terminator | Kind::Other => State::Dead,
     }
 }
 
@@ -89,12 +84,8 @@ fn after_released(kind: Kind) -> State
     ensures { result ≡ after_released kind }
 {
     match kind {
-        Kind::Component => State::Inside,
-        Kind::Element => State::Inside,
-        Kind::Terminator => State::Inside,
-        Kind::Release => State::Inside,
-        Kind::Plain => State::Dead,
-        Kind::Other => State::Dead,
+        Kind::Component | Kind::Element | Kind::Terminator | Kind::Release => State::Inside,
+        Kind::Plain | Kind::Other => State::Dead,
     }
 }
 
@@ -119,31 +110,20 @@ pub fn step(service: Service, state: State, byte: u8) -> State
 pub fn is_dead(state: State) -> bool
     ensures { result ≡ is_dead state }
 {
-    match state {
-        State::Start => false,
-        State::Second => false,
-        State::Third => false,
-        State::Tagged => false,
-        State::Opened => false,
-        State::Parted => false,
-        State::Inside => false,
-        State::Released => false,
-        State::Dead => true,
-    }
+    matches!(state, State::Dead)
 }
 
 // The first bad byte from an offset on, where a segment's tag is to start; the end if there is none.
+#[tactic(auto, using(crate::proofs::Scanning::looking_on, crate::proofs::Scanning::looking_out))]
 pub fn find_bad(service: Service, message: &[u8], from: usize) -> usize
     ensures { result ≡ bad_from service message.now from }
 {
     let mut state = State::Start;
-    let mut at = from;
-    while at < message.len() {
+    for at in from..message.len() {
         state = step(service, state, message[at]);
         if is_dead(state) {
             return at;
         }
-        at += 1;
     }
-    at
+    from.max(message.len())
 }

@@ -3,8 +3,8 @@
 ghost use Rattle.std.specs.Prelude.{◌≡◌, ◌&&◌, ltb, length, drop, get_or};
 ghost use Rattle.reading.specs.meaning.Service.{must_release};
 ghost use Rattle.reading.specs.declared.machine.State.TheVariants.{Opened};
-ghost use Rattle.reading.specs.method.Machine.{end_on, segment_end, or_length};
-ghost use Rattle.reading.specs.method.Kept.{TagOrNone, Passed, marked_by};
+ghost use Rattle.reading.specs.method.Machine.{end_on, segment_end};
+ghost use Rattle.reading.specs.method.Kept.{TagOrNone, PassedOrEnd, marked_by};
 
 use crate::bytes;
 use crate::bytes::Kind;
@@ -14,24 +14,20 @@ use crate::service::Service;
 pub fn is_released(service: Service, message: &[u8], at: usize) -> bool
     ensures { result ≡ (ltb at (length message.now) && must_release service (get_or message.now at 0)) }
 {
-    if at < message.len() {
-        return bytes::must_release(service, message[at]);
-    }
-    false
+    at < message.len() && bytes::must_release(service, message[at])
 }
 
-// The first byte from an offset on that is no text; the end if there is none. This is where a message's bytes are read one by one.
-fn pass_text(service: Service, message: &[u8], from: usize) -> usize
-    ensures { Passed service message.now from result }
+// The first byte from an offset on that is no text. This is where a message's bytes are read one by one.
+#[tactic(auto, using(crate::proofs::Ending::passed_none))]
+fn pass_text(service: Service, message: &[u8], from: usize) -> Option<usize>
+    ensures { PassedOrEnd service message.now from result }
 {
-    let mut at = from;
-    while at < message.len() {
+    for at in from..message.len() {
         if !bytes::is_text(service, message[at]) {
-            return at;
+            return Some(at);
         }
-        at += 1;
     }
-    at
+    None
 }
 
 // Does a needless mark stand right before `at`? Where text has been passed from `from` on, it would be a component's; otherwise it is what
@@ -40,24 +36,24 @@ fn is_marked(service: Service, message: &[u8], from: usize, at: usize, was: bool
     ensures { result ≡ marked_by service message.now from at was }
 {
     if from < at {
-        return slices::byte_at(message, at - 1) == service.component as u32;
+        slices::byte_at(message, at - 1) == u32::from(service.component)
+    } else {
+        was
     }
-    was
 }
 
 // From right behind the mark that opens an element on, text after text. `opened` and `parted` say what stands right before `next`: such a
 // mark, or one that parts two components.
-fn end_inside(service: Service, message: &[u8], from: usize) -> usize
-    ensures { result ≡ or_length message.now (end_on service Opened from (drop from message.now)) }
+#[tactic(auto, using(crate::proofs::Ending::ending_steps))]
+fn end_inside(service: Service, message: &[u8], from: usize) -> Option<usize>
+    ensures { result ≡ end_on service Opened from (drop from message.now) }
 {
     let mut opened = true;
     let mut parted = false;
     let mut next = from;
+    // Stays: text is passed as a whole, so `next` jumps, which no `for` says.
     while next < message.len() {
-        let at = pass_text(service, message, next);
-        if message.len() <= at {
-            return message.len();
-        }
+        let at = pass_text(service, message, next)?;
         match bytes::kind_of(service, message[at]) {
             Kind::Component => {
                 opened = false;
@@ -66,7 +62,7 @@ fn end_inside(service: Service, message: &[u8], from: usize) -> usize
             }
             Kind::Element => {
                 if is_marked(service, message, next, at, parted) {
-                    return message.len();
+                    return None;
                 }
                 opened = true;
                 parted = false;
@@ -74,13 +70,13 @@ fn end_inside(service: Service, message: &[u8], from: usize) -> usize
             }
             Kind::Terminator => {
                 if is_marked(service, message, next, at, opened | parted) {
-                    return message.len();
+                    return None;
                 }
-                return at;
+                return Some(at);
             }
             Kind::Release => {
                 if !is_released(service, message, at + 1) {
-                    return message.len();
+                    return None;
                 }
                 opened = false;
                 parted = false;
@@ -91,47 +87,35 @@ fn end_inside(service: Service, message: &[u8], from: usize) -> usize
                 parted = false;
                 next = at + 1;
             }
-            Kind::Other => {
-                return message.len();
-            }
+            Kind::Other => return None,
         }
     }
-    message.len()
+    None
 }
 
 // Does a tag stand at an offset, and a byte behind it?
+#[tactic(auto, using(crate::proofs::Ending::tag_steps))]
 fn has_tag(message: &[u8], at: usize) -> bool
     ensures { TagOrNone message.now at result }
 {
-    if message.len() < 4 {
-        return false;
-    }
-    if message.len() - 4 < at {
-        return false;
-    }
-    if !bytes::is_tag_byte(message[at]) {
-        return false;
-    }
-    if !bytes::is_tag_byte(message[at + 1]) {
-        return false;
-    }
-    bytes::is_tag_byte(message[at + 2])
+    4 <= message.len()
+        && at <= message.len() - 4
+        && bytes::is_tag_byte(message[at])
+        && bytes::is_tag_byte(message[at + 1])
+        && bytes::is_tag_byte(message[at + 2])
 }
 
-// Where the terminator stands of the segment that starts at an offset; the message's length where there is no such segment. A
-// number and no enum: that would go through memory for every segment.
-pub fn find_end(service: Service, message: &[u8], at: usize) -> usize
-    ensures { result ≡ or_length message.now (segment_end service message.now at) }
+// Where the terminator stands of the segment that starts at an offset, whatever stands before it and behind it.
+#[tactic(auto, using(crate::proofs::Ending::tagged_steps))]
+pub fn find_end(service: Service, message: &[u8], at: usize) -> Option<usize>
+    ensures { result ≡ segment_end service message.now at }
 {
     if !has_tag(message, at) {
-        return message.len();
+        return None;
     }
     match bytes::kind_of(service, message[at + 3]) {
-        Kind::Component => message.len(),
         Kind::Element => end_inside(service, message, at + 4),
-        Kind::Terminator => at + 3,
-        Kind::Release => message.len(),
-        Kind::Plain => message.len(),
-        Kind::Other => message.len(),
+        Kind::Terminator => Some(at + 3),
+        Kind::Component | Kind::Release | Kind::Plain | Kind::Other => None,
     }
 }

@@ -3,7 +3,7 @@ ghost use Rattle.std.specs.Prelude.{◌≡◌};
 ghost use Rattle.reading.specs.meaning.Service.{standard};
 
 // The five, in the order in which an interchange names them.
-#[derive(Clone, Copy)]
+#[derive(Clone, Copy, PartialEq, Eq, Debug)]
 pub struct Service {
     pub component: u8,
     pub element: u8,

@@ -9,6 +9,7 @@ use mathlib.Core.Bool.{Bool, true, false}
 use mathlib.Core.Logic.{◌⊎◌, inl, inr}
 use lib.ListN.{length, drop, length-append}
 use lib.Seq.{drop-append_seam, drop-drop, drop-length, take-length, take-append_seam, take-append-add}
+use Rattle.std.specs.Prelude.{Some, None}
 use Rattle.reading.specs.meaning.Service.{GoodService}
 use Rattle.reading.specs.meaning.Message.{Segment, Message, ValidSegment, write_elements, write_segment, write_segments, render}
 use Rattle.reading.specs.meaning.WellFormed.{SegmentAt, NoSegmentAt, end_of}
@@ -18,8 +19,6 @@ use Rattle.reading.specs.method.Machine.{pick, stepped, is_start, is_dead, end_o
 use Rattle.reading.specs.declared.service.Service.{Service}
 use Rattle.reading.specs.declared.machine.State.{State}
 use Rattle.reading.specs.declared.machine.State.TheVariants.{Start}
-use Rattle.reading.specs.declared.cursor.End.TheVariants.{At, Nowhere}
-use Rattle.reading.specs.declared.cursor.Found.TheVariants as found
 use Rattle.reading.proofs.States.{Course, ends, goes_on, fails, course}
 use Rattle.reading_laws.proofs.Segments.{behind, none_some, some_is, behind_segment, segment_behind}
 use Rattle.reading_laws.proofs.Rendering.{elements_long, segment_front, segments_append, segments_front}
@@ -28,13 +27,13 @@ use Rattle.reading_laws.proofs.Rendering.{elements_long, segment_front, segments
 
 record EndsAt (s : Service) (p : State) (at : ℕ) (bs rest : List ℕ) : Type 0 where
   end : ℕ
-  found : end_on s p at bs ≡ At end
+  found : end_on s p at bs ≡ Some end
   counted : suc end + length rest ≡ at + length bs
 
 module _ (s : Service) where
-  end_step : (p q : State) (at b : ℕ) (bs : List ℕ) → stepped s p b ≡ q → end_on s p at (b ∷ bs) ≡ pick (is_start q) (At at) (pick (is_dead q) Nowhere (end_on s q (at + 1) bs))
+  end_step : (p q : State) (at b : ℕ) (bs : List ℕ) → stepped s p b ≡ q → end_on s p at (b ∷ bs) ≡ pick (is_start q) (Some at) (pick (is_dead q) None (end_on s q (at + 1) bs))
   unfolding end_on
-  end_step p q at b bs e = ap (λ (x : State). pick (is_start x) (At at) (pick (is_dead x) Nowhere (end_on s x (at + 1) bs))) e
+  end_step p q at b bs e = ap (λ (x : State). pick (is_start x) (Some at) (pick (is_dead x) None (end_on s x (at + 1) bs))) e
 
   ends_at : (p : State) (at : ℕ) (bs rest : List ℕ) → behind s p bs ≡ some rest → EndsAt s p at bs rest
   unfolding behind
@@ -51,13 +50,13 @@ module _ (s : Service) where
       go (goes_on t d) h ih e = further _ h t d (ih _ (rw (t, d) at e))
       go fails h ih e = absurd (none_some e)
 
-  ends_nowhere : (p : State) (at : ℕ) (bs : List ℕ) → behind s p bs ≡ none → end_on s p at bs ≡ Nowhere
+  ends_nowhere : (p : State) (at : ℕ) (bs : List ℕ) → behind s p bs ≡ none → end_on s p at bs ≡ None
   unfolding behind end_on
   ends_nowhere p at [] e = refl
   ends_nowhere p at (b ∷ bs) e = go (is_start (stepped s p b)) (is_dead (stepped s p b)) (ends_nowhere (stepped s p b) (at + 1) bs) e
     where
-      go : (t d : Bool) → (behind s (stepped s p b) bs ≡ none → end_on s (stepped s p b) (at + 1) bs ≡ Nowhere)
-          → pick t (some bs) (pick d none (behind s (stepped s p b) bs)) ≡ none → pick t (At at) (pick d Nowhere (end_on s (stepped s p b) (at + 1) bs)) ≡ Nowhere
+      go : (t d : Bool) → (behind s (stepped s p b) bs ≡ none → end_on s (stepped s p b) (at + 1) bs ≡ None)
+          → pick t (some bs) (pick d none (behind s (stepped s p b) bs)) ≡ none → pick t (Some at) (pick d None (end_on s (stepped s p b) (at + 1) bs)) ≡ None
       go true true ih e = absurd (none_some (sym e))
       go true false ih e = absurd (none_some (sym e))
       go false true ih e = refl
@@ -74,26 +73,26 @@ module _ (s : Service) (good : GoodService s) where
 
   -- ---- the end
 
-  pub end_of_segment : (bs : List ℕ) (at : ℕ) (g : Segment) → SegmentAt s bs at g → segment_end s bs at ≡ At (end_of s at g)
+  pub end_of_segment : (bs : List ℕ) (at : ℕ) (g : Segment) → SegmentAt s bs at g → segment_end s bs at ≡ Some (end_of s at g)
   end_of_segment bs at g i =
       let r = ends_at s Start at (drop at bs) i.rest (ap (behind s Start) i.same ∙ behind_segment s good g i.rest i.valid) in
       let long : length (drop at bs) ≡ 3 + length (write_elements s g.elements (s.terminator ∷ i.rest)) = ap length i.same ∙ omega arith in
-      r.found ∙ ap At (let c = r.counted in omega (arith, elements_long s g.elements (s.terminator ∷ i.rest)))
+      r.found ∙ ap Some (let c = r.counted in omega (arith, elements_long s g.elements (s.terminator ∷ i.rest)))
 
-  pub end_of_none : (bs : List ℕ) (at : ℕ) → NoSegmentAt s bs at → segment_end s bs at ≡ Nowhere
+  pub end_of_none : (bs : List ℕ) (at : ℕ) → NoSegmentAt s bs at → segment_end s bs at ≡ None
   end_of_none bs at none-there = go (behind s Start (drop at bs)) refl
     where
-      go : (r : Option (List ℕ)) → behind s Start (drop at bs) ≡ r → segment_end s bs at ≡ Nowhere
+      go : (r : Option (List ℕ)) → behind s Start (drop at bs) ≡ r → segment_end s bs at ≡ None
       go (some rest) e = let f = segment_behind s good (drop at bs) rest e in absurd (none-there f.segment (record { valid = f.valid; rest = rest; same = f.same }))
       go none e = ends_nowhere s Start at (drop at bs) e
 
   -- ---- the cursor
 
   pub cursor : (bs : List ℕ) (at : ℕ) (g : Segment) → SegmentAt s bs at g
-      → next_segment s bs at ≡ found.Segment (span at (end_of s at g)) (record { at = end_of s at g + 1 })
+      → next_segment s bs at ≡ Some (span at (end_of s at g), record { at = end_of s at g + 1 })
   cursor bs at g i = ap (found_by at) (end_of_segment bs at g i)
 
-  pub no_cursor : (bs : List ℕ) (at : ℕ) → NoSegmentAt s bs at → next_segment s bs at ≡ found.Nothing
+  pub no_cursor : (bs : List ℕ) (at : ℕ) → NoSegmentAt s bs at → next_segment s bs at ≡ None
   no_cursor bs at none-there = ap (found_by at) (end_of_none bs at none-there)
 
   -- ---- the starts of a message's segments
@@ -127,14 +126,16 @@ module _ (s : Service) (good : GoodService s) where
   -- the law: from each segment's start a cursor goes on to the next one's
   pub starts : (before : Message) (g : Segment) (after : Message) → ValidSegment g
       → next_segment s (render s (before ++ (g ∷ after))) (start_after s (before ++ (g ∷ after)) (length before))
-      ≡ found.Segment (span (start_after s (before ++ (g ∷ after)) (length before)) (end_of s (start_after s (before ++ (g ∷ after)) (length before)) g))
-      (record { at = start_after s (before ++ (g ∷ after)) (length before + 1) })
+      ≡ Some (
+        span (start_after s (before ++ (g ∷ after)) (length before)) (end_of s (start_after s (before ++ (g ∷ after)) (length before)) g),
+        record { at = start_after s (before ++ (g ∷ after)) (length before + 1) },
+      )
   starts before g after v =
       rw (start_is before (g ∷ after), ← next_start before g after)
       (cursor (render s (before ++ (g ∷ after))) (length (render s before)) g (written_at before g after v))
 
   -- and at the message's end it finds nothing
-  pub no_more : (bs : List ℕ) → next_segment s bs (length bs) ≡ found.Nothing
+  pub no_more : (bs : List ℕ) → next_segment s bs (length bs) ≡ None
   no_more bs = no_cursor bs (length bs) (λ g i. nil≢cons (sym (drop-length bs) ∙ i.same))
 
   -- the first segment starts at 0, and behind the last one is the end

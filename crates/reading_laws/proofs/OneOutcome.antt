@@ -5,7 +5,6 @@ use Rattle.reading.proofs.service.Service.standard.Reads as standard
 use Rattle.slices.proofs.byte_at.Reads as byte_at
 use Rattle.slices.proofs.put.Reads as put
 use Rattle.slices.proofs.entry_of.Reads as entry_of
-use Rattle.slices.proofs.put_size.Reads as put_size
 use Rattle.reading.proofs.bytes.is_data.Reads as is_data
 use Rattle.reading.proofs.bytes.is_digit.Reads as is_digit
 use Rattle.reading.proofs.bytes.is_tag_byte.Reads as is_tag_byte
@@ -18,7 +17,6 @@ use Rattle.reading.proofs.segment.find_end.Reads as find_end
 use Rattle.reading.proofs.machine.find_bad.Reads as find_bad
 use Rattle.reading.proofs.bytes.is_text.Reads as is_text
 use Rattle.reading.proofs.span.Span.empty_at.Reads as empty_at
-use Rattle.reading.proofs.cursor.segment_end.Reads as segment_end
 use Rattle.reading.proofs.cursor.Cursor.first.Reads as first
 use Rattle.reading.proofs.cursor.Cursor.next_segment.Reads as next_segment
 use Rattle.reading.proofs.lookup.seek_from.Reads as seek_from
@@ -73,9 +71,6 @@ one_find_bad κs a r q x y m n = m ∙ sym n
 pub one_empty_at : One empty_at.Post
 one_empty_at κs a r q x y m n = m ∙ sym n
 
-pub one_segment_end : One segment_end.Post
-one_segment_end κs a r q x y m n = m ∙ sym n
-
 pub one_first : One first.Post
 one_first κs a r q x y m n = λ i. record { at = (m ∙ sym n) i }
 
@@ -99,12 +94,10 @@ one_same_component κs a r q x y m n = m ∙ sym n
 pub one_tag_at : One tag_at.Post
 one_tag_at κs a r q x y m n = m.0 ∙ sym n.0
 
--- the table is the first argument
-pub one_put : (κs : _) (a : _) (r q : _) (x y : _) → put.Post κs a r x → put.Post κs a q y → x.0.now ≡ y.0.now
-one_put κs a r q x y m n = m ∙ sym n
-
-pub one_put_size : (κs : _) (a : _) (r q : _) (x y : _) → put_size.Post κs a r x → put_size.Post κs a q y → x.0.now ≡ y.0.now
-one_put_size κs a r q x y m n = m ∙ sym n
+-- the table is the first argument, of values of any type T that is copied
+pub one_put : (T laws copy clone dict : _) (κs : _) (a : _) (r q : _) (x y : _)
+    → put.Post T laws copy clone dict κs a r x → put.Post T laws copy clone dict κs a q y → x.0.now ≡ y.0.now
+one_put T laws copy clone dict κs a r q x y m n = m ∙ sym n
 
 pub one_entry_of : One entry_of.Post
 one_entry_of κs a r q x y m n = m ∙ sym n

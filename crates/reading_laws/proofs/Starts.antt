@@ -3,14 +3,16 @@ use Prim.Native.Nat.{ℕ, suc, ◌+◌}
 use mathlib.Core.Path.{◌≡◌, refl, sym, ap, ap₂, ◌∙◌}
 use mathlib.Core.List.{List, [], ◌∷◌, ◌++◌, append_assoc}
 use lib.ListN.{length, length-append}
+use Rattle.std.specs.Prelude.{Option}
 use Rattle.reading.specs.meaning.Service.{All, GoodService}
 use Rattle.reading.specs.meaning.Message.{Message, Segment, ValidSegment, write_segments, render}
 use Rattle.reading.specs.meaning.WellFormed.{WellFormed, end_of}
 use Rattle.reading_laws.specs.laws.Outcome.{start_after}
 use Rattle.reading.specs.meaning.Starts.{starts_in, starts_of}
+use Rattle.reading.specs.declared.span.Span.{Span}
+use Rattle.reading.specs.declared.cursor.Cursor.{Cursor}
 use Rattle.reading.specs.method.Starts.{starts_then, starts_from}
 use Rattle.reading.specs.declared.service.Service.{Service}
-use Rattle.reading.specs.declared.cursor.Found.{Found}
 use Rattle.reading_laws.proofs.Cursors.{cursor, written_at, next_start, start_is}
 
 module _ (s : Service) (service : GoodService s) where
@@ -31,7 +33,7 @@ module _ (s : Service) (service : GoodService s) where
   unfolding starts_from starts_in
   starts_found [] before v = refl
   starts_found (g ∷ gs) before v =
-      ap (λ (f : Found). starts_then f (starts_from s (render s (before ++ (g ∷ gs))) (length gs)) (length (render s before)))
+      ap (λ (f : Option (Span × Cursor)). starts_then f (starts_from s (render s (before ++ (g ∷ gs))) (length gs)) (length (render s before)))
       (cursor s service (render s (before ++ (g ∷ gs))) (length (render s before)) g (written_at s service before g gs v.0))
       ∙ ap (λ (xs : List ℕ). length (render s before) ∷ xs)
       (ap (starts_from s (render s (before ++ (g ∷ gs))) (length gs)) (next_at before g gs)

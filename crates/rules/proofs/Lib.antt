@@ -1,5 +1,5 @@
--- How the loops of the code run through the definitions.
-pub mod TruthValues
-pub mod Loops
-pub mod Watching
+-- How the code runs through the definitions.
+pub mod Reading
+pub mod Owners
+pub mod Identifiers
 pub mod Passing

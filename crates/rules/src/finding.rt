@@ -1,11 +1,16 @@
-// What is found in the rows. 01, numbers 14 and 15.
+// What is found in the rows: the first row that some filling breaks. 01, numbers 14 and 15.
 
-#[derive(Clone, Copy)]
+#[derive(Clone, Copy, PartialEq, Eq, Debug)]
 pub enum Finding {
-    // No filling breaks any row.
-    Kept,
-    // The first row that some filling breaks is broken in every one: its place and line.
-    Broken(u32, u32),
-    // It is broken in some only: its place, its line, and the lowest unknown condition of the row.
-    Unsettled(u32, u32, u32),
+    // Every filling breaks it.
+    Broken {
+        place: u32,
+        line: u32,
+    },
+    // Some only do; the condition is the lowest unknown one of the row.
+    Unsettled {
+        place: u32,
+        line: u32,
+        condition: u32,
+    },
 }

@@ -1,6 +1,6 @@
 // Rules: the rows of a guide book, and the first of them that a placed message breaks, under what is known of the conditions.
 // 01, "The guide book" (Row), the last paragraph of "Placing and judging", and numbers 13 to 15; to be read in this order:
-// conditions, breach, instances, watch, finding, first_row; and identifier.
+// conditions, breach, instances, finding, watch, first_row; and identifier.
 #![tactic(auto)]
 
 mod breach;

@@ -1,126 +1,110 @@
-// What a pass over the homes watches for on account of one line, and what is found in an instance.
-ghost use Rattle.std.specs.Prelude.{◌≡◌, ◌<◌, ◌≤◌, ◌^◌, cond, eqb};
+// What a pass over the homes watches for on account of one line, and what it finds.
+ghost use Rattle.std.specs.Prelude.{◌≡◌, ◌<◌, ◌≤◌, ◌^◌, length, unwrap_or, Ok};
 ghost use Rattle.guide.specs.meaning.Guide.{guide_of};
-ghost use Rattle.guide.specs.meaning.View.{row_number};
-ghost use Rattle.rules.specs.meaning.Instances.{place_in};
-ghost use Rattle.rules.specs.method.Scanning.{breach_in, watch_of, is_idle, report_in, report_of, instance_of};
-ghost use Rattle.rules.specs.method.Laps.{first_instance};
+ghost use Rattle.rules.specs.method.Scanning.{watch_of, is_idle, scanned_line};
+ghost use Rattle.rules.specs.method.Passing.{IsSegment, reported_at};
 
-use crate::breach::Breach;
+use crate::breach::{Breach, weigh_row};
 use crate::finding::Finding;
-use crate::{breach, instances};
+use crate::instances;
 use guide::layout;
 
-// The home of the triggers of the line's parent (0 for the message), the home of the segments that show the line, and what its row
-// comes to where the line is present and where it is not.
+// The home of the triggers of the line's parent, the home of the segments that show the line, and what its row comes to where the line
+// is present and where it is not.
 #[derive(Clone, Copy)]
 pub struct Watch {
+    // Stays: 0 for the message, since what is found is told for any homes, and a home 0 would be one of its triggers.
     pub trigger: u32,
     pub sign: u32,
     pub present: Breach,
     pub absent: Breach,
 }
 
-// Lines run fastest.
-fn row_of(book: &[u8], identifier: u32, line: u32) -> u32
-    requires { (identifier < 65536) × ((1 ≤ line) × (line ≤ (guide_of book.now).lines)) }
-    ensures { result ≡ row_number (guide_of book.now) identifier line }
-{
-    identifier * layout::lines(book) + (line - 1)
-}
-
-// What a line's row comes to where the line is present, or where it is not. A required line is there in every instance, and its row
-// asks for no more.
-fn weigh_line(book: &[u8], identifier: u32, conditions: &[u8], line: u32, present: bool) -> Breach
-    requires { (identifier < 65536) × ((1 ≤ line) × (line ≤ (guide_of book.now).lines)) }
-    ensures { result ≡ breach_in (guide_of book.now) identifier conditions.now line present }
-{
-    if layout::required(book, line) == 1 {
-        return Breach::Never;
-    }
-    breach::weigh_row(book, row_of(book, identifier, line), conditions, present)
-}
-
-// All that one pass over the homes needs to know of a line.
-pub fn watch_line(book: &[u8], identifier: u32, conditions: &[u8], line: u32) -> Watch
-    requires { ((identifier < 65536) × (line < 65536)) × ((1 ≤ line) × (line ≤ (guide_of book.now).lines)) }
-    ensures { result ≡ watch_of (guide_of book.now) identifier conditions.now line }
-{
-    let trigger = instances::trigger_of(book, line);
-    let sign = instances::sign_of(book, line);
-    let present = weigh_line(book, identifier, conditions, line, true);
-    let absent = weigh_line(book, identifier, conditions, line, false);
-    Watch {
-        trigger,
-        sign,
-        present,
-        absent,
-    }
-}
-
-// Can no instance break the row?
-fn is_idle(watch: Watch) -> bool
-    ensures { result ≡ is_idle watch }
-{
-    let present = watch.present;
-    let absent = watch.absent;
-    breach::is_never(present) & breach::is_never(absent)
-}
-
-// The first instance of the line's parent: the message, 0, or the first trigger; one behind the last segment if there is none, or
-// where none can break the row.
-pub fn first_instance(homes: &[u32], watch: Watch) -> usize
-    ensures { result ≡ first_instance watch homes.now }
-{
-    if is_idle(watch) {
-        return homes.len() + 1;
-    }
-    if watch.trigger == 0 {
-        return 0;
-    }
-    let lap = instances::lap_of(homes, watch.trigger, watch.sign, 0);
-    lap.next
-}
-
-// 01: the line's first segment in the instance if present, otherwise the parent's trigger (1 for the root).
-fn place_in(instance: usize, seen: usize) -> u32
-    requires { (instance < 2 ^ 32) × (seen < 2 ^ 32) }
-    ensures { result ≡ place_in instance seen }
-{
-    if seen == 0 {
-        if instance == 0 {
-            return 1;
+impl Watch {
+    // All that one pass over the homes needs to know of a line.
+    pub fn of_line(book: &[u8], identifier: u32, conditions: &[u8], line: u32) -> Watch
+        requires identifier { identifier < 65536 }
+        requires line { (1 ≤ line) × (line ≤ (guide_of book.now).lines) }
+        ensures { result ≡ watch_of (guide_of book.now) identifier conditions.now line }
+    {
+        let lines = layout::lines(book);
+        let unbroken = Watch {
+            trigger: instances::trigger_of(book, line),
+            sign: instances::sign_of(book, line),
+            present: Breach::Never,
+            absent: Breach::Never,
+        };
+        // A required line is there in every instance, and its row asks for no more.
+        if layout::required(book, line) == 1 {
+            return unbroken;
         }
-        return instance as u32;
+        // Lines run fastest.
+        let row = identifier * lines + (line - 1);
+        Watch {
+            present: weigh_row(book, row, conditions, true),
+            absent: weigh_row(book, row, conditions, false),
+            ..unbroken
+        }
     }
-    seen as u32
-}
 
-// What the row comes to in an instance where the line's first segment is `seen`.
-fn breach_in(watch: Watch, seen: usize) -> Breach
-    ensures { result ≡ cond (eqb seen 0) watch.absent watch.present }
-{
-    if seen == 0 {
-        return watch.absent;
+    // Can no instance break the row?
+    fn is_idle(self) -> bool
+        ensures { result ≡ is_idle self }
+    {
+        self.present == Breach::Never && self.absent == Breach::Never
     }
-    watch.present
-}
 
-// 01: number 14 for a row that every filling breaks, 15 for one that only some do.
-fn report_as(breach: Breach, place: u32, line: u32) -> Finding
-    ensures { result ≡ report_of breach place line }
-{
-    match breach {
-        Breach::Never => Finding::Kept,
-        Breach::Always => Finding::Broken(place, line),
-        Breach::Sometimes(condition) => Finding::Unsettled(place, line, condition),
+    // What is found in one instance: that of this trigger, or the message itself; `seen` is the line's first segment in it.
+    fn report(self, line: u32, instance: Option<usize>, seen: Option<usize>) -> Result<(), Finding>
+        requires instance { IsSegment instance }
+        requires seen { IsSegment seen }
+        ensures { result ≡ reported_at self line (unwrap_or instance 0) (unwrap_or seen 0) }
+    {
+        // What stands before the first trigger of a group is in no instance.
+        if instance.is_none() && self.trigger != 0 {
+            return Ok(());
+        }
+        let breach = if seen.is_some() {
+            self.present
+        } else {
+            self.absent
+        };
+        // 01: the line's first segment in the instance if present, otherwise the parent's trigger (1 for the root).
+        let place = seen.or(instance).unwrap_or(1) as u32;
+        // 01: number 14 for a row that every filling breaks, 15 for one that only some do.
+        match breach {
+            Breach::Never => Ok(()),
+            Breach::Always => Err(Finding::Broken { place, line }),
+            Breach::Sometimes(condition) => Err(Finding::Unsettled {
+                place,
+                line,
+                condition,
+            }),
+        }
     }
-}
 
-// What is found in one instance.
-pub fn report(watch: Watch, line: u32, instance: usize, seen: usize) -> Finding
-    requires { (instance < 2 ^ 32) × (seen < 2 ^ 32) }
-    ensures { result ≡ report_in watch line (instance_of instance seen) }
-{
-    report_as(breach_in(watch, seen), place_in(instance, seen), line)
+    // Instance by instance of the line's parent, in one pass over the homes: each ends before the next trigger.
+    #[tactic(auto, using(crate::proofs::Passing::passes))]
+    pub fn scan(self, line: u32, homes: &[u32]) -> Result<(), Finding>
+        requires { length homes.now < 2 ^ 32 }
+        ensures { result ≡ scanned_line self line homes.now (Ok tt) }
+    {
+        if self.is_idle() {
+            return Ok(());
+        }
+        let mut instance = None;
+        let mut seen = None;
+        for (at, &home) in homes.iter().enumerate() {
+            let segment = at + 1;
+            if home == self.trigger {
+                self.report(line, instance, seen)?;
+                instance = Some(segment);
+                // A trigger may itself show the line.
+                seen = (home == self.sign).then_some(segment);
+            } else if home == self.sign {
+                seen = seen.or(Some(segment));
+            }
+        }
+        self.report(line, instance, seen)
+    }
 }

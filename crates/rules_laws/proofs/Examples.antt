@@ -32,9 +32,10 @@ use Rattle.rules_laws.specs.meaning.OnTree.{RulesHold}
 use Rattle.rules.specs.method.Scanning.{reading, breach_of, instances_from, scanned_in, scanned_from, scanned_row, first_unknown}
 use Rattle.rules.specs.method.Identifiers.{identified_from, identified}
 use Rattle.rules.specs.declared.breach.Breach.TheVariants.{Never, Always, Sometimes}
-use Rattle.rules.specs.declared.finding.Finding.{Finding}
-use Rattle.rules.specs.declared.finding.Finding.TheVariants.{Kept, Broken, Unsettled}
-use Rattle.rules.specs.declared.identifier.Identified.TheVariants.{Known, Foreign}
+use Rattle.rules.specs.method.Scanning.{Outcome}
+use Rattle.rules.specs.declared.finding.Finding.TheVariants.{Broken, Unsettled}
+use Rattle.std.specs.Prelude.{Ok, Err}
+use Rattle.std.specs.Prelude.{Some, None}
 use Rattle.rules_laws.proofs.Scanned.{scanned}
 use Rattle.rules_laws.proofs.OnTree.{rules_on_tree}
 use Rattle.rules_laws.proofs.SureOrOpen.{unsettled}
@@ -44,7 +45,7 @@ abbrev K : Guide
 K = guide_of k
 
 -- the first row of a message with these homes, where this is said of condition 1: by the definition, and by the code
-abbrev Found : List ℕ → ℕ → Finding → Type 0
+abbrev Found : List ℕ → ℕ → Outcome → Type 0
 Found hs c v = (first_row K 0 (c ∷ []) hs (noted_parents (plan_in k) hs) ≡ v) × (scanned_row K 0 (c ∷ []) hs ≡ v)
 
 abbrev none : List ℕ
@@ -60,21 +61,21 @@ abbrev lin_qty_lin : List ℕ
 lin_qty_lin = 1 ∷ 2 ∷ 3 ∷ 5 ∷ 6 ∷ 5 ∷ 7 ∷ []
 
 pub record Table : Type 0 where
-  no_position : Found none 2 Kept
-  present_true : Found lin_qty 1 Kept
-  present_false : Found lin_qty 0 (Broken 5 6)
-  present_unknown : Found lin_qty 2 (Unsettled 5 6 1)
-  absent_true : Found lin 1 (Broken 4 6)
-  absent_false : Found lin 0 Kept
-  absent_unknown : Found lin 2 (Unsettled 4 6 1)
+  no_position : Found none 2 (Ok tt)
+  present_true : Found lin_qty 1 (Ok tt)
+  present_false : Found lin_qty 0 (Err (Broken 5 6))
+  present_unknown : Found lin_qty 2 (Err (Unsettled 5 6 1))
+  absent_true : Found lin 1 (Err (Broken 4 6))
+  absent_false : Found lin 0 (Ok tt)
+  absent_unknown : Found lin 2 (Err (Unsettled 4 6 1))
   -- QTY counts for its own LIN alone
-  both_true : Found lin_qty_lin 1 (Broken 6 6)
-  both_false : Found lin_qty_lin 0 (Broken 5 6)
-  both_unknown : Found lin_qty_lin 2 (Unsettled 5 6 1)
+  both_true : Found lin_qty_lin 1 (Err (Broken 6 6))
+  both_false : Found lin_qty_lin 0 (Err (Broken 5 6))
+  both_unknown : Found lin_qty_lin 2 (Err (Unsettled 5 6 1))
   -- the Prüfidentifikator
-  ours : identified K (49 ∷ 48 ∷ 48 ∷ 48 ∷ 49 ∷ []) ≡ Known 0
-  another : identified K (49 ∷ 48 ∷ 48 ∷ 48 ∷ 50 ∷ []) ≡ Foreign
-  too_short : identified K (49 ∷ 48 ∷ 48 ∷ 48 ∷ []) ≡ Foreign
+  ours : identified K (49 ∷ 48 ∷ 48 ∷ 48 ∷ 49 ∷ []) ≡ Some 0
+  another : identified K (49 ∷ 48 ∷ 48 ∷ 48 ∷ 50 ∷ []) ≡ None
+  too_short : identified K (49 ∷ 48 ∷ 48 ∷ 48 ∷ []) ≡ None
 
 pub bench : Table
 unfolding k edition_numbered guide_of target opened_by noted climb some first_unknown literal all_hold any_holds segments_of first_in entries_in entries_from found_among reading instances_from scanned_in scanned_from same_component identified_from

@@ -1,4 +1,4 @@
--- What a finding says of the rows: Kept that none is broken; Broken, under one assignment, that the first that it breaks has that
+-- What a finding says of the rows: none that none is broken; Broken, under one assignment, that the first that it breaks has that
 -- place and line; Unsettled names the lowest unknown condition of its row. The conditions of a row rise, so the first that is
 -- unknown is the lowest; and where none is unknown all fillings agree.
 use Prim.Native.Nat.{ℕ, ◌<◌, ◌≤◌}
@@ -13,39 +13,40 @@ use Rattle.book.specs.meaning.GoodBook.{GoodBook}
 use Rattle.guide.specs.meaning.View.{row_of, in_use}
 use Rattle.book_laws.proofs.ViewedRows.{NumbersRise}
 use Rattle.rules.specs.meaning.Conditions.{Assignment, is_unknown, told}
-use Rattle.rules.specs.method.Scanning.{first_unknown}
+use Rattle.rules.specs.method.Scanning.{Outcome, first_unknown}
 use Rattle.rules_laws.specs.laws.FirstFound.{some, every, found_under, found_among, first_row}
 use Rattle.rules.specs.meaning.Rows.{condition_number, conditions_of}
 use Rattle.rules.specs.meaning.Entries.{Entry, entry_for, entries_of}
-use Rattle.rules.specs.declared.finding.Finding.TheVariants.{Kept, Broken, Unsettled}
+use Rattle.rules.specs.declared.finding.Finding.TheVariants.{Broken, Unsettled}
+use Rattle.std.specs.Prelude.{Ok, Err}
 use Rattle.rules_laws.proofs.Keys.{In, all_entries, all_of}
 use Rattle.rules_laws.proofs.Exact.{row_rises}
 
 -- ---- under one assignment
 
-broken_kept : (k l : ℕ) → Broken k l ≡ Kept → ⊥
+broken_kept : (k l : ℕ) → ◌≡◌ {A = Outcome} (Err (Broken k l)) (Ok tt) → ⊥
 broken_kept k l q = let z : ◌≡◌ {A = ℕ} 0 1 = cc in omega arith
 
-unsettled_kept : (k l c : ℕ) → Unsettled k l c ≡ Kept → ⊥
+unsettled_kept : (k l c : ℕ) → ◌≡◌ {A = Outcome} (Err (Unsettled k l c)) (Ok tt) → ⊥
 unsettled_kept k l c q = let z : ◌≡◌ {A = ℕ} 0 1 = cc in omega arith
 
-broken_unsettled : (k l m n c : ℕ) → Broken k l ≡ Unsettled m n c → ⊥
+broken_unsettled : (k l m n c : ℕ) → ◌≡◌ {A = Outcome} (Err (Broken k l)) (Err (Unsettled m n c)) → ⊥
 broken_unsettled k l m n c q = let z : ◌≡◌ {A = ℕ} 0 1 = cc in omega arith
 
-same_place : (k l m n : ℕ) → Broken k l ≡ Broken m n → (k ≡ m) × (l ≡ n)
+same_place : (k l m n : ℕ) → ◌≡◌ {A = Outcome} (Err (Broken k l)) (Err (Broken m n)) → (k ≡ m) × (l ≡ n)
 same_place k l m n q = (cc, cc)
 
 -- an assignment keeps a row
 abbrev pub KeptBy : Assignment → Entry → Type 0
 KeptBy a e = e.is_broken_by a ≡ false
 
-pub kept_all : (a : Assignment) (es : List Entry) → (found_under a es ≡ Kept) ↔ All (KeptBy a) es
+pub kept_all : (a : Assignment) (es : List Entry) → (found_under a es ≡ Ok tt) ↔ All (KeptBy a) es
 unfolding found_under
 kept_all a [] = (λ _. tt, λ _. refl)
 kept_all a (e ∷ es) = go (e.is_broken_by a) refl (kept_all a es)
   where
-    go : (t : Bool) → e.is_broken_by a ≡ t → (found_under a es ≡ Kept) ↔ All (KeptBy a) es
-        → (cond (e.is_broken_by a) (Broken e.place e.line) (found_under a es) ≡ Kept) ↔ (KeptBy a e × All (KeptBy a) es)
+    go : (t : Bool) → e.is_broken_by a ≡ t → (found_under a es ≡ Ok tt) ↔ All (KeptBy a) es
+        → (cond (e.is_broken_by a) (Err (Broken e.place e.line)) (found_under a es) ≡ Ok tt) ↔ (KeptBy a e × All (KeptBy a) es)
     go true q r = (λ x. absurd (broken_kept _ _ (rw q at x)), λ x. absurd (true≢false (sym q ∙ x.0)))
     go false q r = (λ x. (q, r.0 (rw q at x)), λ x. rw q (r.1 x.1))
 
@@ -73,12 +74,12 @@ one_more_lem a e es k l h f =
       line_is = f.line_is;
     }
 
-under_first : (a : Assignment) (es : List Entry) (k l : ℕ) → found_under a es ≡ Broken k l → FirstBroken a es k l
+under_first : (a : Assignment) (es : List Entry) (k l : ℕ) → found_under a es ≡ Err (Broken k l) → FirstBroken a es k l
 unfolding found_under
 under_first a [] k l q = absurd (broken_kept k l (sym q))
 under_first a (e ∷ es) k l q = go (e.is_broken_by a) refl q (under_first a es k l)
   where
-    go : (t : Bool) → e.is_broken_by a ≡ t → cond t (Broken e.place e.line) (found_under a es) ≡ Broken k l → (found_under a es ≡ Broken k l → FirstBroken a es k l)
+    go : (t : Bool) → e.is_broken_by a ≡ t → cond t (Err (Broken e.place e.line)) (found_under a es) ≡ Err (Broken k l) → (found_under a es ≡ Err (Broken k l) → FirstBroken a es k l)
         → FirstBroken a (e ∷ es) k l
     go true x y r =
         record {
@@ -94,24 +95,24 @@ under_first a (e ∷ es) k l q = go (e.is_broken_by a) refl q (under_first a es 
     go false x y r = one_more_lem a e es k l x (r y)
 
 first_under : (a : Assignment) (before : List Entry) (e : Entry) (behind : List Entry) → All (KeptBy a) before → e.is_broken_by a ≡ true
-    → found_under a (before ++ (e ∷ behind)) ≡ Broken e.place e.line
+    → found_under a (before ++ (e ∷ behind)) ≡ Err (Broken e.place e.line)
 unfolding found_under
 first_under a [] e behind h q = rw q
 first_under a (d ∷ ds) e behind h q = rw h.0 (first_under a ds e behind h.1 q)
 
-pub broken_first : (a : Assignment) (es : List Entry) (k l : ℕ) → (found_under a es ≡ Broken k l) ↔ FirstBroken a es k l
+pub broken_first : (a : Assignment) (es : List Entry) (k l : ℕ) → (found_under a es ≡ Err (Broken k l)) ↔ FirstBroken a es k l
 broken_first a es k l = (
   under_first a es k l,
-  λ f. ap (found_under a) f.all ∙ first_under a f.before f.row f.behind f.kept f.broken ∙ (λ i. Broken (f.place_is i) (f.line_is i)),
+  λ f. ap (found_under a) f.all ∙ first_under a f.before f.row f.behind f.kept f.broken ∙ (λ i. Err (Broken (f.place_is i) (f.line_is i))),
 )
 
 -- one assignment leaves nothing open
-pub never_unsettled : (a : Assignment) (es : List Entry) (k l c : ℕ) → found_under a es ≡ Unsettled k l c → ⊥
+pub never_unsettled : (a : Assignment) (es : List Entry) (k l c : ℕ) → found_under a es ≡ Err (Unsettled k l c) → ⊥
 unfolding found_under
 never_unsettled a [] k l c q = unsettled_kept k l c (sym q)
 never_unsettled a (e ∷ es) k l c q = go (e.is_broken_by a) q (never_unsettled a es k l c)
   where
-    go : (t : Bool) → cond t (Broken e.place e.line) (found_under a es) ≡ Unsettled k l c → (found_under a es ≡ Unsettled k l c → ⊥) → ⊥
+    go : (t : Bool) → cond t (Err (Broken e.place e.line)) (found_under a es) ≡ Err (Unsettled k l c) → (found_under a es ≡ Err (Unsettled k l c) → ⊥) → ⊥
     go true x r = broken_unsettled _ _ _ _ _ x
     go false x r = r x
 
@@ -182,18 +183,18 @@ pub record LeftOpen (cs : List ℕ) (es : List Entry) (place line k : ℕ) : Typ
   pub not_every : every cs row.conditions row.is_broken_by ≡ false
   pub condition_is : first_unknown cs row.conditions ≡ k
 
-same_entries : (k l c m n d : ℕ) → Unsettled k l c ≡ Unsettled m n d → (k ≡ m) × (l ≡ n) × (c ≡ d)
+same_entries : (k l c m n d : ℕ) → ◌≡◌ {A = Outcome} (Err (Unsettled k l c)) (Err (Unsettled m n d)) → (k ≡ m) × (l ≡ n) × (c ≡ d)
 same_entries k l c m n d q = (cc, cc, cc)
 
-left_open : (cs : List ℕ) (es : List Entry) (k l c : ℕ) → found_among cs es ≡ Unsettled k l c → LeftOpen cs es k l c
+left_open : (cs : List ℕ) (es : List Entry) (k l c : ℕ) → found_among cs es ≡ Err (Unsettled k l c) → LeftOpen cs es k l c
 unfolding found_among
 left_open cs [] k l c q = absurd (unsettled_kept k l c (sym q))
 left_open cs (e ∷ es) k l c q =
     go (some cs e.conditions e.is_broken_by) refl (every cs e.conditions e.is_broken_by) refl q (left_open cs es k l c)
   where
     go : (s : Bool) → some cs e.conditions e.is_broken_by ≡ s → (t : Bool) → every cs e.conditions e.is_broken_by ≡ t
-        → cond s (cond t (Broken e.place e.line) (Unsettled e.place e.line (first_unknown cs e.conditions))) (found_among cs es) ≡ Unsettled k l c
-        → (found_among cs es ≡ Unsettled k l c → LeftOpen cs es k l c) → LeftOpen cs (e ∷ es) k l c
+        → cond s (cond t (Err (Broken e.place e.line)) (Err (Unsettled e.place e.line (first_unknown cs e.conditions)))) (found_among cs es) ≡ Err (Unsettled k l c)
+        → (found_among cs es ≡ Err (Unsettled k l c) → LeftOpen cs es k l c) → LeftOpen cs (e ∷ es) k l c
     go true x true y z r = absurd (broken_unsettled _ _ _ _ _ z)
     go true x false y z r =
         let w = same_entries _ _ _ _ _ _ z in
@@ -234,7 +235,7 @@ module _ (book : List ℕ) (good : GoodBook book) (p : ℕ) (known : p < (guide_
       ))
 
   -- 01, number 15: "lowest unknown condition of the row"
-  pub lowest : (k l c : ℕ) → first_row (guide_of book) p cs hs ps ≡ Unsettled k l c → Lowest cs (conditions_of (row_of (guide_of book) p l)) c
+  pub lowest : (k l c : ℕ) → first_row (guide_of book) p cs hs ps ≡ Err (Unsettled k l c) → Lowest cs (conditions_of (row_of (guide_of book) p l)) c
   lowest k l c q =
       let o = left_open cs (entries_of (guide_of book) p hs ps) k l c q in
       let h = all_of OpenLowest o.row (entries_of (guide_of book) p hs ps) open_lowest o.inside in

@@ -1,4 +1,4 @@
--- What the first row is, in the words of fillings: Kept is found exactly if no filling breaks any row; Broken exactly if the first
+-- What the first row is, in the words of fillings: nothing is found exactly if no filling breaks any row; Broken exactly if the first
 -- row that some filling breaks has that place and line and every filling breaks it; Unsettled exactly if only some do.
 -- 01, numbers 14 and 15. Each row looks at its own conditions only, so trying these meets every filling.
 use Prim.Native.Nat.{ℕ}
@@ -12,8 +12,9 @@ use Rattle.rules.specs.meaning.Conditions.{Assignment, told, Filling}
 use Rattle.rules.specs.method.Scanning.{first_unknown}
 use Rattle.rules_laws.specs.laws.FirstFound.{some, reported, found_among, first_row}
 use Rattle.rules.specs.meaning.Entries.{Entry, entries_of, SomeBreaks, EveryBreaks}
-use Rattle.rules.specs.declared.finding.Finding.{Finding}
-use Rattle.rules.specs.declared.finding.Finding.TheVariants.{Kept, Broken, Unsettled}
+use Rattle.rules.specs.method.Scanning.{Outcome}
+use Rattle.rules.specs.declared.finding.Finding.TheVariants.{Broken, Unsettled}
+use Rattle.std.specs.Prelude.{Ok, Err}
 use Rattle.rules_laws.proofs.Keys.{Looks, looks}
 use Rattle.rules_laws.proofs.SureOrOpen.{Over, never, always, sometimes, over}
 
@@ -59,15 +60,15 @@ at_once cs e es P h = record { before = []; row = e; behind = es; all = refl; ke
 
 -- ---- what each finding says
 
-abbrev Says : List ℕ → List Entry → Finding → Type 0
-Says cs es Kept = All (KeptIn cs) es
-Says cs es (Broken k l) = First cs es (ByEvery cs k l)
-Says cs es (Unsettled k l c) = First cs es (BySome cs k l c)
+abbrev Says : List ℕ → List Entry → Outcome → Type 0
+Says cs es (Ok u) = All (KeptIn cs) es
+Says cs es (Err (Broken k l)) = First cs es (ByEvery cs k l)
+Says cs es (Err (Unsettled k l c)) = First cs es (BySome cs k l c)
 
-say_more : (cs : List ℕ) (e : Entry) (es : List Entry) (v : Finding) → KeptIn cs e → Says cs es v → Says cs (e ∷ es) v
-say_more cs e es Kept h s = (h, s)
-say_more cs e es (Broken k l) h s = one_more_lem cs e es (ByEvery cs k l) h s
-say_more cs e es (Unsettled k l c) h s = one_more_lem cs e es (BySome cs k l c) h s
+say_more : (cs : List ℕ) (e : Entry) (es : List Entry) (v : Outcome) → KeptIn cs e → Says cs es v → Says cs (e ∷ es) v
+say_more cs e es (Ok u) h s = (h, s)
+say_more cs e es (Err (Broken k l)) h s = one_more_lem cs e es (ByEvery cs k l) h s
+say_more cs e es (Err (Unsettled k l c)) h s = one_more_lem cs e es (BySome cs k l c) h s
 
 says : (cs : List ℕ) (es : List Entry) → All Looks es → Says cs es (found_among cs es)
 unfolding found_among
@@ -92,10 +93,10 @@ some_kept cs e l h = go (over cs e l)
     go (always s t k) = absurd (true≢false (sym (k (told cs) (λ _ _. refl)) ∙ h (told cs) (λ _ _. refl)))
     go (sometimes s t x y) = absurd (true≢false (sym x.gives ∙ h x.a x.filling))
 
-every_broken : (cs : List ℕ) (e : Entry) → Looks e → EveryBreaks cs e → reported cs e ≡ Broken e.place e.line
+every_broken : (cs : List ℕ) (e : Entry) → Looks e → EveryBreaks cs e → reported cs e ≡ Err (Broken e.place e.line)
 every_broken cs e l h = go (over cs e l)
   where
-    go : Over cs e → reported cs e ≡ Broken e.place e.line
+    go : Over cs e → reported cs e ≡ Err (Broken e.place e.line)
     go (never s k) = absurd (true≢false (sym (h (told cs) (λ _ _. refl)) ∙ k (told cs) (λ _ _. refl)))
     go (always s t k) = rw t
     go (sometimes s t x y) = absurd (true≢false (sym (h y.a y.filling) ∙ y.gives))
@@ -108,15 +109,15 @@ some_broken cs e l a f q = go (over cs e l)
     go (always s t k) = s
     go (sometimes s t x y) = s
 
-some_open : (cs : List ℕ) (e : Entry) → Looks e → BrokenInSome cs e → reported cs e ≡ Unsettled e.place e.line (first_unknown cs e.conditions)
+some_open : (cs : List ℕ) (e : Entry) → Looks e → BrokenInSome cs e → reported cs e ≡ Err (Unsettled e.place e.line (first_unknown cs e.conditions))
 some_open cs e l h = go (over cs e l)
   where
-    go : Over cs e → reported cs e ≡ Unsettled e.place e.line (first_unknown cs e.conditions)
+    go : Over cs e → reported cs e ≡ Err (Unsettled e.place e.line (first_unknown cs e.conditions))
     go (never s k) = absurd (true≢false (sym h.0.breaks ∙ k h.0.filling h.0.fills))
     go (always s t k) = absurd (true≢false (sym (k h.1.0 h.1.1) ∙ h.1.2))
     go (sometimes s t x y) = rw t
 
-all_kept : (cs : List ℕ) (es : List Entry) → All Looks es → All (KeptIn cs) es → found_among cs es ≡ Kept
+all_kept : (cs : List ℕ) (es : List Entry) → All Looks es → All (KeptIn cs) es → found_among cs es ≡ Ok tt
 unfolding found_among
 all_kept cs [] l h = refl
 all_kept cs (e ∷ es) l h = rw (some_kept cs e l.0 h.0) (all_kept cs es l.1 h.1)
@@ -132,39 +133,39 @@ first_looks [] e behind l = l.0
 first_looks (d ∷ ds) e behind l = first_looks ds e behind l.1
 
 module _ (cs : List ℕ) (es : List Entry) (l : All Looks es) where
-  every_found : (k m : ℕ) → First cs es (ByEvery cs k m) → found_among cs es ≡ Broken k m
+  every_found : (k m : ℕ) → First cs es (ByEvery cs k m) → found_among cs es ≡ Err (Broken k m)
   every_found k m f =
       let n : All Looks (f.before ++ (f.row ∷ f.behind)) = subst (All Looks) f.all l in
       let o = first_looks f.before f.row f.behind n in
       ap (found_among cs) f.all
       ∙ first_stops cs f.before f.row f.behind n f.kept
       (some_broken cs f.row o (told cs) (λ _ _. refl) (f.is.1 (told cs) (λ _ _. refl)))
-      ∙ every_broken cs f.row o f.is.1 ∙ (λ i. Broken (f.is.0.0 i) (f.is.0.1 i))
+      ∙ every_broken cs f.row o f.is.1 ∙ (λ i. Err (Broken (f.is.0.0 i) (f.is.0.1 i)))
 
-  some_found : (k m c : ℕ) → First cs es (BySome cs k m c) → found_among cs es ≡ Unsettled k m c
+  some_found : (k m c : ℕ) → First cs es (BySome cs k m c) → found_among cs es ≡ Err (Unsettled k m c)
   some_found k m c f =
       let n : All Looks (f.before ++ (f.row ∷ f.behind)) = subst (All Looks) f.all l in
       let o = first_looks f.before f.row f.behind n in
       let b = f.is.1.0 in
       ap (found_among cs) f.all
       ∙ first_stops cs f.before f.row f.behind n f.kept (some_broken cs f.row o b.filling b.fills b.breaks)
-      ∙ some_open cs f.row o f.is.1 ∙ (λ i. Unsettled (f.is.0.0 i) (f.is.0.1 i) (f.is.2 i))
+      ∙ some_open cs f.row o f.is.1 ∙ (λ i. Err (Unsettled (f.is.0.0 i) (f.is.0.1 i) (f.is.2 i)))
 
-  said_of : (v : Finding) → found_among cs es ≡ v → Says cs es v
+  said_of : (v : Outcome) → found_among cs es ≡ v → Says cs es v
   said_of v e = subst (Says cs es) e (says cs es l)
 
 -- ---- the laws, for any book, homes and parents
 
 module _ (g : Guide) (p : ℕ) (hs ps cs : List ℕ) where
   -- number 0
-  pub first_kept : (first_row g p cs hs ps ≡ Kept) ↔ All (KeptIn cs) (entries_of g p hs ps)
-  first_kept = (said_of cs (entries_of g p hs ps) (looks g p hs ps) Kept, all_kept cs (entries_of g p hs ps) (looks g p hs ps))
+  pub first_kept : (first_row g p cs hs ps ≡ Ok tt) ↔ All (KeptIn cs) (entries_of g p hs ps)
+  first_kept = (said_of cs (entries_of g p hs ps) (looks g p hs ps) (Ok tt), all_kept cs (entries_of g p hs ps) (looks g p hs ps))
 
   -- number 14
-  pub first_broken : (k l : ℕ) → (first_row g p cs hs ps ≡ Broken k l) ↔ First cs (entries_of g p hs ps) (ByEvery cs k l)
-  first_broken k l = (said_of cs (entries_of g p hs ps) (looks g p hs ps) (Broken k l), every_found cs (entries_of g p hs ps) (looks g p hs ps) k l)
+  pub first_broken : (k l : ℕ) → (first_row g p cs hs ps ≡ Err (Broken k l)) ↔ First cs (entries_of g p hs ps) (ByEvery cs k l)
+  first_broken k l = (said_of cs (entries_of g p hs ps) (looks g p hs ps) (Err (Broken k l)), every_found cs (entries_of g p hs ps) (looks g p hs ps) k l)
 
   -- number 15
-  pub first_unsettled : (k l c : ℕ) → (first_row g p cs hs ps ≡ Unsettled k l c) ↔ First cs (entries_of g p hs ps) (BySome cs k l c)
+  pub first_unsettled : (k l c : ℕ) → (first_row g p cs hs ps ≡ Err (Unsettled k l c)) ↔ First cs (entries_of g p hs ps) (BySome cs k l c)
   first_unsettled k l c =
-      (said_of cs (entries_of g p hs ps) (looks g p hs ps) (Unsettled k l c), some_found cs (entries_of g p hs ps) (looks g p hs ps) k l c)
+      (said_of cs (entries_of g p hs ps) (looks g p hs ps) (Err (Unsettled k l c)), some_found cs (entries_of g p hs ps) (looks g p hs ps) k l c)

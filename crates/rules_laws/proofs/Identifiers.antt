@@ -15,46 +15,45 @@ use Rattle.reading.proofs.Comparing.{same_bytes_true}
 use Rattle.reading_laws.proofs.OneReading.{same_bytes_refl}
 use Rattle.rules.specs.meaning.Identifiers.{identifier_value}
 use Rattle.rules.specs.method.Identifiers.{identified_from, identified}
-use Rattle.rules.specs.declared.identifier.Identified.{Identified}
-use Rattle.rules.specs.declared.identifier.Identified.TheVariants.{Known, Foreign}
+use Rattle.std.specs.Prelude.{Option, Some, None}
 
-known_foreign : (p : ℕ) → Known p ≡ Foreign → ⊥
+known_foreign : (p : ℕ) → Some p ≡ None → ⊥
 known_foreign p e = let z : ◌≡◌ {A = ℕ} 0 1 = cc in omega arith
 
-same_known : (p q : ℕ) → Known p ≡ Known q → p ≡ q
+same_known : (p q : ℕ) → Some p ≡ Some q → p ≡ q
 same_known p q e = cc
 
 module _ (g : Guide) (value : List ℕ) where
-  known_from : (p : ℕ) (from count : ℕ) → identified_from g value from count ≡ Known p → (p < from + count) × (value ≡ identifier_value g p)
+  known_from : (p : ℕ) (from count : ℕ) → identified_from g value from count ≡ Some p → (p < from + count) × (value ≡ identifier_value g p)
   unfolding identified_from
   known_from p from zero e = absurd (known_foreign p (sym e))
   known_from p from (suc count) e = go (same_component value (identifier_value g from)) refl e (known_from p (suc from) count)
     where
-      go : (t : Bool) → same_component value (identifier_value g from) ≡ t → cond t (Known from) (identified_from g value (suc from) count) ≡ Known p
-          → (identified_from g value (suc from) count ≡ Known p → (p < suc from + count) × (value ≡ identifier_value g p))
+      go : (t : Bool) → same_component value (identifier_value g from) ≡ t → cond t (Some from) (identified_from g value (suc from) count) ≡ Some p
+          → (identified_from g value (suc from) count ≡ Some p → (p < suc from + count) × (value ≡ identifier_value g p))
           → (p < from + suc count) × (value ≡ identifier_value g p)
       go true s q r =
           let z : from ≡ p = same_known from p q in
           (omega arith, same_bytes_true value (identifier_value g from) s ∙ ap (identifier_value g) z)
       go false s q r = let h = r q in (omega arith, h.1)
 
-  foreign_from : (from count : ℕ) → identified_from g value from count ≡ Foreign → (p : ℕ) → from ≤ p → p < from + count → value ≡ identifier_value g p → ⊥
+  foreign_from : (from count : ℕ) → identified_from g value from count ≡ None → (p : ℕ) → from ≤ p → p < from + count → value ≡ identifier_value g p → ⊥
   unfolding identified_from
   foreign_from from zero e p i j v = omega arith
   foreign_from from (suc count) e p i j v = go (same_component value (identifier_value g from)) refl e (λ q k. foreign_from (suc from) count q p k (omega arith) v)
     where
-      go : (t : Bool) → same_component value (identifier_value g from) ≡ t → cond t (Known from) (identified_from g value (suc from) count) ≡ Foreign
-          → (identified_from g value (suc from) count ≡ Foreign → suc from ≤ p → ⊥) → ⊥
+      go : (t : Bool) → same_component value (identifier_value g from) ≡ t → cond t (Some from) (identified_from g value (suc from) count) ≡ None
+          → (identified_from g value (suc from) count ≡ None → suc from ≤ p → ⊥) → ⊥
       go true s q r = known_foreign from q
       go false s q r =
           dite (dec_lt from p) (λ k. r q k)
           (λ k. let z : p ≡ from = omega arith in
           true≢false (sym (same_bytes_refl value) ∙ ap (same_component value) (v ∙ ap (identifier_value g) z) ∙ s))
 
-  pub identified_known : (p : ℕ) → identified g value ≡ Known p → (p < g.identifiers) × (value ≡ identifier_value g p)
+  pub identified_known : (p : ℕ) → identified g value ≡ Some p → (p < g.identifiers) × (value ≡ identifier_value g p)
   identified_known p e = let h = known_from p 0 g.identifiers e in (omega arith, h.1)
 
-  pub identified_foreign : identified g value ≡ Foreign → (p : ℕ) → p < g.identifiers → value ≡ identifier_value g p → ⊥
+  pub identified_foreign : identified g value ≡ None → (p : ℕ) → p < g.identifiers → value ≡ identifier_value g p → ⊥
   identified_foreign e p h v = foreign_from 0 g.identifiers e p (omega arith) (omega arith) v
 
 -- ---- in a good book
@@ -95,11 +94,11 @@ module _ (book : List ℕ) (good : GoodBook book) where
       let n : number p ≡ number q = ap number_of e in
       dite (dec_lt p q) (λ i. absurd (let r = rises p q i k in omega arith)) (λ i. dite (dec_lt q p) (λ j. absurd (let r = rises q p j h in omega arith)) (λ j. omega arith))
 
-  pub known_identified : (p : ℕ) (value : List ℕ) → p < (guide_of book).identifiers → value ≡ identifier_value (guide_of book) p → identified (guide_of book) value ≡ Known p
+  pub known_identified : (p : ℕ) (value : List ℕ) → p < (guide_of book).identifiers → value ≡ identifier_value (guide_of book) p → identified (guide_of book) value ≡ Some p
   known_identified p value h v = go (identified (guide_of book) value) refl
     where
-      go : (i : Identified) → identified (guide_of book) value ≡ i → i ≡ Known p
-      go (Known q) e =
+      go : (i : Option ℕ) → identified (guide_of book) value ≡ i → i ≡ Some p
+      go (Some q) e =
           let k = identified_known (guide_of book) value q e in
-          ap Known (one_value q p k.0 h (sym k.1 ∙ v))
-      go Foreign e = absurd (identified_foreign (guide_of book) value e p h v)
+          ap Some (one_value q p k.0 h (sym k.1 ∙ v))
+      go None e = absurd (identified_foreign (guide_of book) value e p h v)

@@ -31,8 +31,9 @@ use Rattle.rules.specs.method.Scanning.{Instance, instance_of, instances_in, wei
 use Rattle.rules.specs.declared.breach.Breach.{Breach}
 use Rattle.rules.specs.declared.breach.Breach.TheVariants.{Never, Always, Sometimes}
 use Rattle.rules.specs.declared.watch.Watch.{Watch}
-use Rattle.rules.specs.declared.finding.Finding.{Finding}
-use Rattle.rules.specs.declared.finding.Finding.TheVariants.{Kept, Broken, Unsettled}
+use Rattle.rules.specs.method.Scanning.{Outcome}
+use Rattle.rules.specs.declared.finding.Finding.TheVariants.{Broken, Unsettled}
+use Rattle.std.specs.Prelude.{Ok, Err}
 use Rattle.rules_laws.proofs.Exact.{Rises, breaks, lowly, highly, some_breaks, every_breaks, row_rises}
 use Rattle.rules_laws.proofs.Lines.{placed_homed}
 use Rattle.rules_laws.proofs.InstancesFound.{line_instances}
@@ -43,24 +44,24 @@ use Rattle.reading.proofs.Booleans.{left, right}
 
 -- ---- one row in one instance
 
-weighed_found : (lo hi : Bool) (k place line : ℕ) (rest : Finding)
-    → cond (lo || hi) (cond (lo && hi) (Broken place line) (Unsettled place line k)) rest ≡ first_found (report_of (weighed lo hi k) place line) rest
+weighed_found : (lo hi : Bool) (k place line : ℕ) (rest : Outcome)
+    → cond (lo || hi) (cond (lo && hi) (Err (Broken place line)) (Err (Unsettled place line k))) rest ≡ first_found (report_of (weighed lo hi k) place line) rest
 weighed_found true true k place line rest = refl
 weighed_found true false k place line rest = refl
 weighed_found false true k place line rest = refl
 weighed_found false false k place line rest = refl
 
-row_found : (cs : List ℕ) (most : ℕ) (w : Row) (present : Bool) (place line : ℕ) (rest : Finding) → Rises most w
+row_found : (cs : List ℕ) (most : ℕ) (w : Row) (present : Bool) (place line : ℕ) (rest : Outcome) → Rises most w
     → cond (some cs (conditions_of w) (breaks w present))
-    (cond (every cs (conditions_of w) (breaks w present)) (Broken place line) (Unsettled place line (first_unknown cs (conditions_of w)))) rest
+    (cond (every cs (conditions_of w) (breaks w present)) (Err (Broken place line)) (Err (Unsettled place line (first_unknown cs (conditions_of w))))) rest
     ≡ first_found (report_of (breach_of cs w present) place line) rest
 row_found cs most w present place line rest r =
     (λ i. cond (some_breaks cs most w present r i)
-    (cond (every_breaks cs most w present r i) (Broken place line) (Unsettled place line (first_unknown cs (conditions_of w)))) rest)
+    (cond (every_breaks cs most w present r i) (Err (Broken place line)) (Err (Unsettled place line (first_unknown cs (conditions_of w))))) rest)
     ∙ weighed_found (lowly cs w present) (highly cs w present) (first_unknown cs (conditions_of w)) place line rest
 
 module _ (g : Guide) (p : ℕ) (cs : List ℕ) (l most : ℕ) (rises : Rises most (row_of g p l)) (optional : (g.required l ≡ 1) → ⊥) where
-  entry_found : (t seen : ℕ) (rest : Finding)
+  entry_found : (t seen : ℕ) (rest : Outcome)
       → cond (some cs (conditions_of (row_of g p l)) (entry_for (row_of g p l) l t seen).is_broken_by) (reported cs (entry_for (row_of g p l) l t seen)) rest
       ≡ first_found (report_in (watch_of g p cs l) l (instance_of t seen)) rest
   entry_found t seen rest = go (eqb seen 0) ∙ sym (ap (λ (r : Bool). first_found (report_of (cond (eqb seen 0) (watched r false) (watched r true)) (place_in t seen) l) rest) (ne_eqb (g.required l) 1 optional))
@@ -70,8 +71,8 @@ module _ (g : Guide) (p : ℕ) (cs : List ℕ) (l most : ℕ) (rises : Rises mos
 
       go : (b : Bool)
           → cond (some cs (conditions_of (row_of g p l)) (breaks (row_of g p l) (not b)))
-          (cond (every cs (conditions_of (row_of g p l)) (breaks (row_of g p l) (not b))) (Broken (place_in t seen) l)
-          (Unsettled (place_in t seen) l (first_unknown cs (conditions_of (row_of g p l))))) rest
+          (cond (every cs (conditions_of (row_of g p l)) (breaks (row_of g p l) (not b))) (Err (Broken (place_in t seen) l))
+          (Err (Unsettled (place_in t seen) l (first_unknown cs (conditions_of (row_of g p l)))))) rest
           ≡ first_found (report_of (cond b (breach_of cs (row_of g p l) false) (breach_of cs (row_of g p l) true)) (place_in t seen) l) rest
       go true = row_found cs most (row_of g p l) false (place_in t seen) l rest rises
       go false = row_found cs most (row_of g p l) true (place_in t seen) l rest rises
@@ -108,7 +109,7 @@ required_found g p cs l hs ps (t ∷ ts) es m h =
     (λ a. must_present (row_of g p l).mode (is_present (first_of (plan_of g) l t hs ps)) (expression (row_of g p l) a) m (ap not (ne_eqb (first_of (plan_of g) l t hs ps) 0 h.0))))
     (required_found g p cs l hs ps ts es m h.1)
 
-required_idle : (g : Guide) (p : ℕ) (cs : List ℕ) (l : ℕ) (hs : List ℕ) (rest : Finding) → g.required l ≡ 1 → scanned_line (watch_of g p cs l) l hs rest ≡ rest
+required_idle : (g : Guide) (p : ℕ) (cs : List ℕ) (l : ℕ) (hs : List ℕ) (rest : Outcome) → g.required l ≡ 1 → scanned_line (watch_of g p cs l) l hs rest ≡ rest
 required_idle g p cs l hs rest e = ap (λ (b : Bool). cond b rest (scanned_in (watch_of g p cs l) l (instances_in (watch_of g p cs l).trigger (watch_of g p cs l).sign hs) rest)) idle
   where
     idle : is_idle (watch_of g p cs l) ≡ true
@@ -120,17 +121,17 @@ never_is Always e = absurd (false≢true e)
 never_is (Sometimes k) e = absurd (false≢true e)
 
 -- a line that no instance can break
-idle_line : (w : Watch) (l : ℕ) (is : List Instance) (rest : Finding) → is_idle w ≡ true → scanned_in w l is rest ≡ rest
+idle_line : (w : Watch) (l : ℕ) (is : List Instance) (rest : Outcome) → is_idle w ≡ true → scanned_in w l is rest ≡ rest
 unfolding scanned_in
 idle_line w l [] rest e = refl
 idle_line w l (i ∷ is) rest e =
-    ap (λ (f : Finding). first_found f (scanned_in w l is rest)) (go (eqb i.seen 0)) ∙ idle_line w l is rest e
+    ap (λ (f : Outcome). first_found f (scanned_in w l is rest)) (go (eqb i.seen 0)) ∙ idle_line w l is rest e
   where
-    go : (b : Bool) → report_of (cond b w.absent w.present) (place_in i.trigger i.seen) l ≡ Kept
+    go : (b : Bool) → report_of (cond b w.absent w.present) (place_in i.trigger i.seen) l ≡ Ok tt
     go true = ap (λ (x : Breach). report_of x (place_in i.trigger i.seen) l) (never_is w.absent (right (is_never w.present) (is_never w.absent) e))
     go false = ap (λ (x : Breach). report_of x (place_in i.trigger i.seen) l) (never_is w.present (left (is_never w.present) (is_never w.absent) e))
 
-scanned_line_lem : (w : Watch) (l : ℕ) (hs : List ℕ) (rest : Finding) → scanned_line w l hs rest ≡ scanned_in w l (instances_in w.trigger w.sign hs) rest
+scanned_line_lem : (w : Watch) (l : ℕ) (hs : List ℕ) (rest : Outcome) → scanned_line w l hs rest ≡ scanned_in w l (instances_in w.trigger w.sign hs) rest
 scanned_line_lem w l hs rest = go (is_idle w) refl
   where
     go : (b : Bool) → is_idle w ≡ b

@@ -17,15 +17,16 @@ use Rattle.rules.specs.meaning.Conditions.{Assignment, is_unknown, told, Filling
 use Rattle.rules.specs.method.Scanning.{first_unknown}
 use Rattle.rules_laws.specs.laws.FirstFound.{some, every, found_under, reported, found_among, first_row}
 use Rattle.rules.specs.meaning.Entries.{Entry, entries_of}
-use Rattle.rules.specs.declared.finding.Finding.{Finding}
-use Rattle.rules.specs.declared.finding.Finding.TheVariants.{Kept, Broken, Unsettled}
+use Rattle.rules.specs.method.Scanning.{Outcome}
+use Rattle.rules.specs.declared.finding.Finding.TheVariants.{Broken, Unsettled}
+use Rattle.std.specs.Prelude.{Ok, Err}
 use Rattle.rules_laws.proofs.Fillings.{Witness, some_is, some_not, some_known, filled_filling, filled_known, filling_list, fill_fills, fill_told, learns_fills}
 use Rattle.rules_laws.proofs.Keys.{Looks, looks, Apart, Keyed, row_key}
 
-abbrev pub IsUnsettled : Finding → Type 0
-IsUnsettled Kept = ⊥
-IsUnsettled (Broken k l) = ⊥
-IsUnsettled (Unsettled k l c) = Unit {0}
+abbrev pub IsUnsettled : Outcome → Type 0
+IsUnsettled (Ok u) = ⊥
+IsUnsettled (Err (Broken k l)) = ⊥
+IsUnsettled (Err (Unsettled k l c)) = Unit {0}
 
 -- ---- one row over all fillings
 
@@ -56,41 +57,41 @@ under_kept : (a : Assignment) (e : Entry) (es : List Entry) → e.is_broken_by a
 unfolding found_under
 under_kept a e es h = rw h
 
-under_broken : (a : Assignment) (e : Entry) (es : List Entry) → e.is_broken_by a ≡ true → found_under a (e ∷ es) ≡ Broken e.place e.line
+under_broken : (a : Assignment) (e : Entry) (es : List Entry) → e.is_broken_by a ≡ true → found_under a (e ∷ es) ≡ Err (Broken e.place e.line)
 unfolding found_under
 under_broken a e es h = rw h
 
-kept_broken : (k l : ℕ) → Kept ≡ Broken k l → ⊥
+kept_broken : (k l : ℕ) → ◌≡◌ {A = Outcome} (Ok tt) (Err (Broken k l)) → ⊥
 kept_broken k l q = let z : ◌≡◌ {A = ℕ} 0 1 = cc in omega arith
 
-same_place : (k l m n : ℕ) → Broken k l ≡ Broken m n → k ≡ m
+same_place : (k l m n : ℕ) → ◌≡◌ {A = Outcome} (Err (Broken k l)) (Err (Broken m n)) → k ≡ m
 same_place k l m n q = cc
 
-same_line : (k l m n : ℕ) → Broken k l ≡ Broken m n → l ≡ n
+same_line : (k l m n : ℕ) → ◌≡◌ {A = Outcome} (Err (Broken k l)) (Err (Broken m n)) → l ≡ n
 same_line k l m n q = cc
 
 -- no later row is reported as this one
-under_apart : (a : Assignment) (e : Entry) (es : List Entry) → Apart e es → found_under a es ≡ Broken e.place e.line → ⊥
+under_apart : (a : Assignment) (e : Entry) (es : List Entry) → Apart e es → found_under a es ≡ Err (Broken e.place e.line) → ⊥
 unfolding found_under
 under_apart a e [] h q = kept_broken _ _ q
 under_apart a e (d ∷ ds) h q = go (d.is_broken_by a) q (under_apart a e ds h.1)
   where
-    go : (t : Bool) → cond t (Broken d.place d.line) (found_under a ds) ≡ Broken e.place e.line
-        → (found_under a ds ≡ Broken e.place e.line → ⊥) → ⊥
+    go : (t : Bool) → cond t (Err (Broken d.place d.line)) (found_under a ds) ≡ Err (Broken e.place e.line)
+        → (found_under a ds ≡ Err (Broken e.place e.line) → ⊥) → ⊥
     go true r x = h.0 (sym (same_line _ _ _ _ r)) (sym (same_place _ _ _ _ r))
     go false r x = x r
 
 -- ---- what a finding says of the fillings
 
-data Said (cs : List ℕ) (es : List Entry) (v : Finding) : Type 0 where
+data Said (cs : List ℕ) (es : List Entry) (v : Outcome) : Type 0 where
   sure : (IsUnsettled v → ⊥) → ((a : Assignment) → Filling cs a → found_under a es ≡ v) → Said cs es v
   unsure : IsUnsettled v → (a b : Assignment) → Filling cs a → Filling cs b → (found_under a es ≡ found_under b es → ⊥) → Said cs es v
 
-on_kept : (cs : List ℕ) (e : Entry) (es : List Entry) (v : Finding) → ((a : Assignment) → Filling cs a → e.is_broken_by a ≡ false) → Said cs es v → Said cs (e ∷ es) v
+on_kept : (cs : List ℕ) (e : Entry) (es : List Entry) (v : Outcome) → ((a : Assignment) → Filling cs a → e.is_broken_by a ≡ false) → Said cs es v → Said cs (e ∷ es) v
 on_kept cs e es v h (sure x y) = sure x (λ a p. under_kept a e es (h a p) ∙ y a p)
 on_kept cs e es v h (unsure x a b p q y) = unsure x a b p q (λ r. y (sym (under_kept a e es (h a p)) ∙ r ∙ under_kept b e es (h b q)))
 
-on_same : (cs : List ℕ) (es : List Entry) {v w : Finding} → v ≡ w → Said cs es v → Said cs es w
+on_same : (cs : List ℕ) (es : List Entry) {v w : Outcome} → v ≡ w → Said cs es v → Said cs es w
 on_same cs es q s = subst (Said cs es) q s
 
 said : (cs : List ℕ) (es : List Entry) → All Looks es → Keyed es → Said cs es (found_among cs es)
@@ -100,9 +101,9 @@ said cs (e ∷ es) l k = go (over cs e l.0) (said cs es l.1 k.1)
   where
     go : Over cs e → Said cs es (found_among cs es) → Said cs (e ∷ es) (cond (some cs e.conditions e.is_broken_by) (reported cs e) (found_among cs es))
     go (never s h) j = on_same cs (e ∷ es) (rw s) (on_kept cs e es (found_among cs es) h j)
-    go (always s t h) j = on_same cs (e ∷ es) {v = Broken e.place e.line} (rw (s, t)) (sure (λ x. x) (λ a p. under_broken a e es (h a p)))
+    go (always s t h) j = on_same cs (e ∷ es) {v = Err (Broken e.place e.line)} (rw (s, t)) (sure (λ x. x) (λ a p. under_broken a e es (h a p)))
     go (sometimes s t x y) j =
-        on_same cs (e ∷ es) {v = Unsettled e.place e.line (first_unknown cs e.conditions)} (rw (s, t))
+        on_same cs (e ∷ es) {v = Err (Unsettled e.place e.line (first_unknown cs e.conditions))} (rw (s, t))
         (unsure tt x.a y.a x.filling y.filling
         (λ r. under_apart y.a e es k.0 (sym (under_kept y.a e es y.gives) ∙ sym r ∙ under_broken x.a e es x.gives)))
 
@@ -115,8 +116,8 @@ known_found cs (e ∷ es) h =
     rw (some_known cs e.conditions e.is_broken_by h, some_known cs e.conditions (λ a. not (e.is_broken_by a)) h) (go (e.is_broken_by (told cs)) (known_found cs es h))
   where
     go : (v : Bool) → found_among cs es ≡ found_under (told cs) es
-        → cond v (cond (not (not v)) (Broken e.place e.line) (Unsettled e.place e.line (first_unknown cs e.conditions))) (found_among cs es)
-        ≡ cond v (Broken e.place e.line) (found_under (told cs) es)
+        → cond v (cond (not (not v)) (Err (Broken e.place e.line)) (Err (Unsettled e.place e.line (first_unknown cs e.conditions)))) (found_among cs es)
+        ≡ cond v (Err (Broken e.place e.line)) (found_under (told cs) es)
     go true x = refl
     go false x = x
 
@@ -129,14 +130,14 @@ at_filling cs es a p = filled_found cs (filling_list cs a) es (fill_fills _ cs) 
 -- ---- over any entries that look at their own conditions and are told apart by line and place
 
 module _ (cs : List ℕ) (es : List Entry) (l : All Looks es) (k : Keyed es) where
-  sure_each : (v : Finding) → (IsUnsettled v → ⊥) → found_among cs es ≡ v → (fs : List ℕ) → Fills cs fs → found_among fs es ≡ v
+  sure_each : (v : Outcome) → (IsUnsettled v → ⊥) → found_among cs es ≡ v → (fs : List ℕ) → Fills cs fs → found_among fs es ≡ v
   sure_each v n e fs h = go (on_same cs es e (said cs es l k))
     where
       go : Said cs es v → found_among fs es ≡ v
       go (sure x y) = filled_found cs fs es h ∙ y (told fs) (filled_filling cs fs h)
       go (unsure x a b p q y) = absurd (n x)
 
-  each_sure : (v : Finding) → ((fs : List ℕ) → Fills cs fs → found_among fs es ≡ v) → found_among cs es ≡ v
+  each_sure : (v : Outcome) → ((fs : List ℕ) → Fills cs fs → found_among fs es ≡ v) → found_among cs es ≡ v
   each_sure v h = go (said cs es l k)
     where
       at : (a : Assignment) → Filling cs a → found_under a es ≡ v
@@ -173,7 +174,7 @@ pub inhabited : (cs : List ℕ) → (fs : List ℕ) × Fills cs fs
 inhabited cs = (filling_list cs (told cs), fill_fills _ cs)
 
 module _ (book : List ℕ) (good : GoodBook book) (p : ℕ) (hs ps : List ℕ) where
-  pub settled : (cs : List ℕ) (v : Finding) → (IsUnsettled v → ⊥)
+  pub settled : (cs : List ℕ) (v : Outcome) → (IsUnsettled v → ⊥)
       → (first_row (guide_of book) p cs hs ps ≡ v) ↔ ((fs : List ℕ) → Fills cs fs → first_row (guide_of book) p fs hs ps ≡ v)
   settled cs v n = (
     sure_each cs (entries_of (guide_of book) p hs ps) (looks (guide_of book) p hs ps) (row_key book good p hs ps) v n,

@@ -8,27 +8,15 @@ ghost use Rattle.slices.specs.method.Entries.{entry};
 pub fn byte_at(bytes: &[u8], at: usize) -> u32
     ensures { (result ≡ get_or bytes.now at 0) × (result < 256) }
 {
-    if at < bytes.len() {
-        return bytes[at] as u32;
-    }
-    0
+    bytes.get(at).map_or(0, |&byte| u32::from(byte))
 }
 
-// One number into a lent table, if it fits there.
-pub fn put(table: &mut [u32], at: usize, number: u32)
-    ensures { table.new ≡ set table.old at number }
+// One value into a lent table, if it fits there.
+pub fn put<T: Copy>(table: &mut [T], at: usize, value: T)
+    ensures { table.new ≡ set table.old at value }
 {
     if at < table.len() {
-        table[at] = number;
-    }
-}
-
-// The same for a size.
-pub fn put_size(table: &mut [usize], at: usize, size: usize)
-    ensures { table.new ≡ set table.old at size }
-{
-    if at < table.len() {
-        table[at] = size;
+        table[at] = value;
     }
 }
 

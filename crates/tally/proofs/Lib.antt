@@ -1,2 +1,2 @@
--- What the two calls answer and leave, case by case.
-pub mod Cases
+-- How four bytes are stored.
+pub mod Stores

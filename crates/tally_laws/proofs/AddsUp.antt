@@ -10,7 +10,7 @@ use lib.Dec.{eqb}
 use borrow.Author.Tests.{eq-eqb, ne_eqb, eqb-true, eqb-false}
 use Rattle.tally.specs.meaning.Tally.{counts, tally_length, count_of}
 use Rattle.tally.specs.statements.AddsUp.{Asked, add, clear, Call, answer_to, answered, after_call, after, Day, day_after, day_of, how_often, sum_of, TallyAddsUp}
-use Rattle.tally.proofs.Cases.{add_of_wrong_length, add_outside, add_to_full, add-one, clear_of_wrong_length, clear_all}
+use Rattle.tally_laws.proofs.Cases.{add_of_wrong_length, add_outside, add_to_full, add-one, clear_of_wrong_length, clear_all}
 use Rattle.tally_laws.proofs.Counts.{Bytes}
 use Rattle.tally_laws.proofs.OneCall.{Moved, one_more_lem, zeroed, Outcome, refused, accepted, outcome, count_in_memory}
 use Rattle.tally_laws.proofs.Sums.{Below, sum_alike, sum_both, sum_how_often}

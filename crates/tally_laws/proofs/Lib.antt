@@ -1,4 +1,5 @@
 -- The laws of the tally.
+pub mod Cases
 pub mod Counts
 pub mod OneCall
 pub mod Sums

@@ -10,7 +10,7 @@ use lib.Dec.{eqb, leb}
 use borrow.Author.Tests.{eqb-true, eqb-false, leb-true, leb-false}
 use Rattle.tally.specs.meaning.Tally.{counts, tally_length, count_place, count_of, with_count, full, answer_to_add, tally_after_add, answer_to_clear, tally_after_clear}
 use Rattle.tally.specs.statements.AddsUp.{Asked, add, clear, Call, answer_to, left_by, answered, after_call}
-use Rattle.tally.proofs.Cases.{add_of_wrong_length, add_outside, add_to_full, add-one, clear_of_wrong_length, clear_all}
+use Rattle.tally_laws.proofs.Cases.{add_of_wrong_length, add_outside, add_to_full, add-one, clear_of_wrong_length, clear_all}
 use Rattle.tally_laws.proofs.Counts.{Bytes, length_with_count, bytes_with_count, own_count, other_count, count_before, count_small}
 
 -- ---- the calls alone

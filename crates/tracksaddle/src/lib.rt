@@ -13,6 +13,7 @@ ghost use Rattle.judging.specs.meaning.Tables.{tables, room_of};
 ghost use Rattle.pieces.specs.method.Calls.{answer_to_piece, numbers_after_piece, starts_after_piece, record_after_piece, answer_to_end, numbers_after_end, record_after_end};
 ghost use Rattle.tally.specs.meaning.Tally.{answer_to_add, tally_after_add, answer_to_clear, tally_after_clear};
 
+use book::BadBook;
 use reading::lookup;
 use reading::service::Service;
 
@@ -49,10 +50,8 @@ pub fn tracksaddle_find_component(
     ensures { part.new ≡ as_many_as_fit (part_numbers (component_span standard message.now at element component)) part.old }
 {
     let span = lookup::component_span(Service::standard(), message, at, element, component);
-    let start = span.start;
-    let end = span.end;
-    slices::put_size(part, 0, start);
-    slices::put_size(part, 1, end - start);
+    slices::put(part, 0, span.start);
+    slices::put(part, 1, span.end - span.start);
 }
 
 // One more piece of a message. `reading` is the state that the caller keeps between calls; once the message has ended, its answer again.
@@ -67,7 +66,7 @@ pub fn tracksaddle_read_piece(
         × (starts.new ≡ starts_after_piece standard reading.old piece.now starts.old)
         × (numbers.new ≡ record_after_piece reading.old numbers.old) }
 {
-    pieces::read_piece(Service::standard(), reading, piece, starts, numbers)
+    pieces::piece_number(pieces::read_piece(Service::standard(), reading, piece, starts, numbers))
 }
 
 // The message that was read in pieces ends: its number is returned, its six numbers go into the lent record, and any further call gets the same.
@@ -76,26 +75,29 @@ pub fn tracksaddle_read_end(reading: &mut [usize], numbers: &mut [u32]) -> u32
         × (reading.new ≡ numbers_after_end reading.old)
         × (numbers.new ≡ record_after_end reading.old numbers.old) }
 {
-    pieces::read_end(reading, numbers)
+    pieces::end_number(pieces::read_end(reading, numbers))
 }
 
 // The table's number for the book alone: 1 malformed, 0 otherwise.
 pub fn tracksaddle_check_book(book: &[u8]) -> u32
     ensures { Judged book.now result }
 {
-    book::check_book(book)
+    match book::check_book(book) {
+        Ok(()) => 0,
+        Err(BadBook) => 1,
+    }
 }
 
 // Adds one to the count of a verdict's number: answers 0, or the first refusal, 1 to 3.
 pub fn tracksaddle_tally_add(tally: &mut [u8], number: u32) -> u32
     ensures { (result ≡ answer_to_add tally.old number) × (tally.new ≡ tally_after_add tally.old number) }
 {
-    tally::add(tally, number)
+    tally::answer_of(tally::add(tally, number))
 }
 
 // Makes every count 0: answers 0, or refusal 1.
 pub fn tracksaddle_tally_clear(tally: &mut [u8]) -> u32
     ensures { (result ≡ answer_to_clear tally.old) × (tally.new ≡ tally_after_clear tally.old) }
 {
-    tally::clear(tally)
+    tally::answer_of(tally::clear(tally))
 }

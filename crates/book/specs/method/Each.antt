@@ -3,9 +3,7 @@ use Rattle.std.specs.Prelude.{ℕ, ◌+◌, ◌*◌, ◌-◌, ◌≤◌, ◌<◌
 use Rattle.guide.specs.meaning.Guide.{Guide, guide_of}
 use Rattle.book.specs.meaning.Rule.{Rule, ◌and◌, every}
 use Rattle.book.specs.method.Run.{all, run}
-use Rattle.book.specs.meaning.GoodBook.{edition_rule, length_rule, blocks_rule, counts_rule, kind_rule, depth_rule, tag_rule, required_rule, selector_rule, code_range_rule, maximum_rule, field_range_rule, group_rule, code_rule, field_rule, identifier_form_rule, identifier_rises, mode_rule, row_end_rule, required_row_rule, rising_fields_rule, trigger_rule, fall_rule, only_frames_rule, carrier_group_rule, field_rises, deeper_rule, frames_rule, carrier_rule, pair_rule}
-use Rattle.book.specs.declared.every.Each.{Each}
-use Rattle.book.specs.declared.every.Each.TheVariants.{Line, Code, Field, Identifier, Row, FieldRises, Deeper}
+use Rattle.book.specs.meaning.GoodBook.{edition_rule, length_rule, blocks_rule, counts_rule, kind_rule, depth_rule, tag_rule, required_rule, selector_rule, code_range_rule, maximum_rule, field_range_rule, group_rule, code_rule, field_rule, identifier_form_rule, identifier_rises, mode_rule, row_end_rule, required_row_rule, rising_fields_rule, trigger_rule, fall_rule, only_frames_rule, carrier_group_rule, frames_rule, carrier_rule, pair_rule}
 
 -- what is asked of one record
 module _ (g : Guide) where
@@ -24,15 +22,6 @@ module _ (g : Guide) where
   -- and of a line among the others, but for its home
   unfoldable pub structure_rule : ℕ → Rule
   structure_rule l = (rising_fields_rule g l and trigger_rule g l and fall_rule g l) and only_frames_rule g l and carrier_group_rule g l
-
-abbrev pub rule_for : Each → Guide → ℕ → ℕ → Rule
-rule_for Line g subject number = line_rule g number
-rule_for Code g subject number = code_rule g number
-rule_for Field g subject number = field_rule g number
-rule_for Identifier g subject number = identifier_rule g number
-rule_for Row g subject number = row_rule g number
-rule_for FieldRises g subject number = field_rises g number
-rule_for Deeper g subject number = deeper_rule g subject number
 
 unfoldable pub header_rule : List ℕ → Rule
 header_rule bs = edition_rule bs and blocks_rule bs and length_rule bs and counts_rule bs

@@ -1,6 +1,6 @@
 -- What the tables hold by which one home is tested: each code's number, and which numbers a line has marked. Only the contracts of
 -- src/numbering.rt and src/homes.rt speak of them; what one home means stands in GoodBook.antt.
-use Rattle.std.specs.Prelude.{ℕ, ◌+◌, ◌*◌, ◌≤◌, ◌<◌, ◌^◌, ◌≡◌, List, eqb, get_or}
+use Rattle.std.specs.Prelude.{ℕ, ◌+◌, ◌*◌, ◌≤◌, ◌<◌, ◌^◌, ◌≡◌, List, Bool, false, not, get_or}
 use Rattle.guide.specs.meaning.Guide.{Guide}
 use Rattle.book.specs.method.Run.{run}
 use Rattle.book.specs.meaning.GoodBook.{not_among_rule}
@@ -25,6 +25,6 @@ pub record Numbered (g : Guide) (numbers : List ℕ) : Type 0 where
       → get_or numbers c 0 ≡ get_or numbers d 0
 
 -- a code's number is not marked exactly when the line has no code of the same bytes
-pub record Marked (g : Guide) (numbers marks : List ℕ) (line : ℕ) : Type 0 where
+pub record Marked (g : Guide) (numbers : List ℕ) (marks : List Bool) (line : ℕ) : Type 0 where
   pub numbered : Numbered g numbers
-  pub free : (c : ℕ) → c < g.codes → eqb (get_or marks (get_or numbers c 0) 0) 0 ≡ run (not_among_rule g line c)
+  pub free : (c : ℕ) → c < g.codes → not (get_or marks (get_or numbers c 0) false) ≡ run (not_among_rule g line c)

@@ -14,7 +14,8 @@ use Rattle.placing.specs.meaning.Fitting.{homes_in}
 use Rattle.placing.specs.meaning.Placement.{Placed, Stops, parents_of}
 use Rattle.placing.specs.meaning.Answers.{HaveHomes, FirstWithout}
 use Rattle.fields.specs.meaning.Fields.{In, LeastFault}
-use Rattle.fields.specs.declared.fault.Fault.TheVariants.{At, Clean}
+use Rattle.std.specs.Prelude.{Ok}
+use Rattle.fields.specs.method.Testing.{at_fault}
 use Rattle.rules.specs.meaning.Conditions.{is_unknown}
 use Rattle.rules.specs.meaning.Entries.{Entry, entries_of, SomeBreaks, EveryBreaks}
 use Rattle.rules.specs.meaning.Identifiers.{identifier_value}
@@ -39,13 +40,13 @@ module _ (s : Service) (g : Guide) where
   FieldFault k [] hs p = ⊥
   FieldFault k (x ∷ xs) [] p = ⊥
   FieldFault k (x ∷ xs) (l ∷ ls) p =
-      ((e : ℕ) × (c : ℕ) × LeastFault s (line_of g l).fields (value_at x) (At e c) × (p ≡ place (suc k) l e c))
-      ⊎ (LeastFault s (line_of g l).fields (value_at x) Clean × FieldFault (suc k) xs ls p)
+      ((e : ℕ) × (c : ℕ) × LeastFault s (line_of g l).fields (value_at x) (at_fault e c) × (p ≡ place (suc k) l e c))
+      ⊎ (LeastFault s (line_of g l).fields (value_at x) (Ok tt) × FieldFault (suc k) xs ls p)
 
   abbrev pub NoFieldFault : Message → List ℕ → Type 0
   NoFieldFault [] hs = Unit {0}
   NoFieldFault (x ∷ xs) [] = Unit {0}
-  NoFieldFault (x ∷ xs) (l ∷ ls) = LeastFault s (line_of g l).fields (value_at x) Clean × NoFieldFault xs ls
+  NoFieldFault (x ∷ xs) (l ∷ ls) = LeastFault s (line_of g l).fields (value_at x) (Ok tt) × NoFieldFault xs ls
 
 -- ---- the Prüfidentifikator: number 13
 

@@ -1,13 +1,12 @@
 -- When a segment keeps the fields of its line, and its least fault otherwise. 01, "The guide book" (Field) and "Placing and
 -- judging", second paragraph; number 12.
-use Rattle.std.specs.Prelude.{ℕ, ◌≤◌, ◌<◌, ◌≡◌, List, [], ◌∷◌, length}
+use Rattle.std.specs.Prelude.{ℕ, ◌≤◌, ◌<◌, ◌≡◌, List, [], ◌∷◌, Result, Ok, Err, length}
 use Rattle.guide.specs.meaning.View.{Field}
 use Rattle.guide.specs.meaning.Words.{number_form, empty_presence, must_presence, with_element_presence}
 use Rattle.reading.specs.meaning.Message.{Component}
 use Rattle.reading.specs.declared.service.Service.{Service}
 use Rattle.fields.specs.meaning.Number.{IsNumber, figures}
 use Rattle.fields.specs.declared.fault.Fault.{Fault}
-use Rattle.fields.specs.declared.fault.Fault.TheVariants.{At, Clean}
 
 -- the values of a segment, by element and component; an absent component has the empty value
 abbrev pub Values : Type 0
@@ -59,6 +58,6 @@ pub data Before (e' c' e c : ℕ) : Type 0 where
   beside : e' ≡ e → c' < c → Before e' c' e c
 
 -- 01, number 12: "the smallest (element, component) at fault there"
-abbrev pub LeastFault : Service → List Field → Values → Fault → Type 0
-LeastFault s fs v (At e c) = Faulty s fs v e c × ((e' c' : ℕ) → Before e' c' e c → Faulty s fs v e' c' → ⊥)
-LeastFault s fs v Clean = (e c : ℕ) → Faulty s fs v e c → ⊥
+abbrev pub LeastFault : Service → List Field → Values → Result (Unit {0}) Fault → Type 0
+LeastFault s fs v (Err x) = Faulty s fs v x.element x.component × ((e' c' : ℕ) → Before e' c' x.element x.component → Faulty s fs v e' c' → ⊥)
+LeastFault s fs v (Ok _) = (e c : ℕ) → Faulty s fs v e c → ⊥

@@ -1,18 +1,15 @@
 -- What the functions inside hand on to each other: nothing here is needed to read what the public ones promise.
-use Rattle.std.specs.Prelude.{ℕ, ◌+◌, ◌-◌, ◌≤◌, ◌≡◌, List, [], ◌∷◌, Bool, true, false, cond, length, take, drop}
+use Rattle.std.specs.Prelude.{ℕ, ◌-◌, ◌≤◌, ◌≡◌, List, [], ◌∷◌, Bool, true, false, cond, Result, Ok, Err, length, take, drop}
+use Rattle.std.specs.declared.ops.Range.{Range}
 use Rattle.guide.specs.meaning.View.{numbers_from}
-use Rattle.reading.specs.meaning.Component.{value_of}
 use Rattle.reading.specs.method.Machine.{kind_of}
 use Rattle.reading.specs.declared.service.Service.{Service}
 use Rattle.reading.specs.declared.bytes.Kind.{Kind}
 use Rattle.reading.specs.declared.bytes.Kind.TheVariants.{Component, Element, Terminator, Release, Plain, Other}
 use Rattle.fields.specs.method.Parts.{Raw, Cut, pieces, cut, components_in, further_in}
 use Rattle.fields.specs.method.Testing.{Tested, broken, kept, Near}
-use Rattle.fields.specs.declared.parts.Part.{Part}
-use Rattle.fields.specs.declared.element.Step.{Step}
-use Rattle.fields.specs.declared.element.Step.TheVariants as step
-use Rattle.fields.specs.declared.element.Closing.{Closing}
-use Rattle.fields.specs.declared.element.Closing.TheVariants as closing
+use Rattle.fields.specs.declared.fault.Fault.{Fault}
+use Rattle.fields.specs.declared.element.Closed.{Closed}
 
 -- ---- what a byte is, where it is not released
 
@@ -76,15 +73,11 @@ behind_element s bs = cond (opens_element s bs) (elements_in (cut s false (drop 
 abbrev pub further_behind : Service → List ℕ → List (List Raw)
 further_behind s bs = cond (opens_component s bs) (further_in (cut s false (drop 1 bs))) (behind_element s bs)
 
--- so many bytes of it are releases, and no bytes of its value
-abbrev pub Counts : Service → Raw → ℕ → Type 0
-Counts s x releases = length (value_of s x) + releases ≡ length x
-
-pub record Reads (s : Service) (bs : List ℕ) (from : ℕ) (x : Part) : Type 0 where
-  pub from_start : from ≤ x.end
-  pub within : x.end ≤ length bs
-  pub cuts : cut s false (drop from bs) ≡ pieces (raw_in bs from x.end) (behind_component s (drop x.end bs)) (further_behind s (drop x.end bs))
-  pub counts : Counts s (raw_in bs from x.end) x.releases
+-- the component that starts at `from` ends at `end`
+pub record Reads (s : Service) (bs : List ℕ) (from end : ℕ) : Type 0 where
+  pub from_start : from ≤ end
+  pub within : end ≤ length bs
+  pub cuts : cut s false (drop from bs) ≡ pieces (raw_in bs from end) (behind_component s (drop end bs)) (further_behind s (drop end bs))
 
 -- the element that is read from `from` on, or what stands between the tag and the first, ends at `end`: the further elements stand
 -- behind it
@@ -93,30 +86,30 @@ pub record Ends (s : Service) (bs : List ℕ) (from end : ℕ) : Type 0 where
   pub within : end ≤ length bs
   pub further : further_in (cut s false (drop from bs)) ≡ behind_element s (drop end bs)
 
--- ---- fields that have been tested. Those of a line end before the number `last`.
+-- ---- fields that have been tested
 
+-- the fields of a line that are left
 abbrev pub fields_from : ℕ → ℕ → List ℕ
 fields_from f last = numbers_from f (last - f)
 
-abbrev pub tested_by : ℕ → Step → Tested
-tested_by last (step.Fault c) = broken c
-tested_by last (step.Next f) = kept (fields_from f last)
+abbrev pub fields_in : Range ℕ → List ℕ
+fields_in left = fields_from left.start left.end
 
-abbrev pub StepWithin : ℕ → ℕ → Step → Type 0
-StepWithin n last (step.Fault c) = c ≤ n
-StepWithin n last (step.Next f) = f ≤ last
+abbrev pub tested_by : Result (Range ℕ) Fault → Tested
+tested_by (Err x) = broken x.component
+tested_by (Ok left) = kept (fields_in left)
 
--- ---- an element that has been tested, from `from` on
+-- a fault is one of the element e, and its component is not beyond the n-th
+abbrev pub FaultWithin : ℕ → ℕ → Result (Range ℕ) Fault → Type 0
+FaultWithin e n (Err x) = (x.element ≡ e) × (x.component ≤ n)
+FaultWithin e n (Ok left) = Unit {0}
 
--- it ends at `end`, and the field f is the next
-pub record Closes (s : Service) (bs : List ℕ) (from last end f : ℕ) : Type 0 where
-  pub ends : Ends s bs from end
-  pub few : f ≤ last
+-- ---- the element e that has been tested, from `from` on
 
-abbrev pub ClosesBy : Service → List ℕ → ℕ → ℕ → Closing → Type 0
-ClosesBy s bs from last (closing.Fault c) = Near (length bs) c
-ClosesBy s bs from last (closing.Closed end f) = Closes s bs from last end f
+abbrev pub ClosesBy : Service → List ℕ → ℕ → ℕ → Result Closed Fault → Type 0
+ClosesBy s bs from e (Err x) = (x.element ≡ e) × Near (length bs) x.component
+ClosesBy s bs from e (Ok x) = Ends s bs from x.end
 
-abbrev pub when_closed : Closing → (ℕ → Tested) → Tested
-when_closed (closing.Fault c) more = broken c
-when_closed (closing.Closed end f) more = more f
+abbrev pub when_closed : Result Closed Fault → (Range ℕ → Tested) → Tested
+when_closed (Err x) more = broken x.component
+when_closed (Ok x) more = more x.left

@@ -1,6 +1,6 @@
 -- The test of a segment against its line's fields as it is done: one pass over its components, as they are written, and over the
 -- fields. Total for any bytes, any book and any service characters; the laws of fields_laws say that it finds the least fault.
-use Rattle.std.specs.Prelude.{ℕ, suc, ◌+◌, ◌≤◌, List, [], ◌∷◌, Bool, false, cond, not, ◌&&◌, ◌||◌, eqb, leb, length, drop}
+use Rattle.std.specs.Prelude.{ℕ, suc, ◌+◌, ◌≤◌, List, [], ◌∷◌, Bool, false, cond, not, ◌&&◌, ◌||◌, Result, Ok, Err, eqb, leb, length, drop}
 use Rattle.guide.specs.meaning.Guide.{Guide}
 use Rattle.guide.specs.meaning.View.{numbers_from}
 use Rattle.guide.specs.meaning.Words.{number_form, empty_presence, must_presence, with_element_presence}
@@ -11,9 +11,7 @@ use Rattle.fields.specs.method.Number.{is_number}
 use Rattle.fields.specs.meaning.Number.{figures}
 use Rattle.fields.specs.method.Parts.{Raw, cut, further_in, has_bytes, any_bytes}
 use Rattle.fields.specs.declared.fault.Fault.{Fault}
-use Rattle.fields.specs.declared.fault.Fault.TheVariants.{At, Clean}
 use Rattle.fields.specs.declared.passes.FirstFault.{FirstFault}
-use Rattle.fields.specs.declared.passes.FirstFault.TheVariants as first
 
 -- ---- one component and the field that names it. Fields go by their number in the book.
 
@@ -84,45 +82,51 @@ test_element s g e xs fs = test_components s g (any_bytes xs) e 1 xs fs
 
 -- ---- the elements of a segment
 
-abbrev pub then_fault : ℕ → Tested → (List ℕ → Fault) → Fault
-then_fault e (broken c) more = At e c
+abbrev pub at_fault : ℕ → ℕ → Result (Unit {0}) Fault
+at_fault e c = Err (record { element = e; component = c })
+
+abbrev pub then_fault : ℕ → Tested → (List ℕ → Result (Unit {0}) Fault) → Result (Unit {0}) Fault
+then_fault e (broken c) more = at_fault e c
 then_fault e (kept fs) more = more fs
 
 -- the fields of elements beyond the last: none of these has bytes
-unfoldable pub test_rest : Guide → List ℕ → Fault
-test_rest g [] = Clean
-test_rest g (f ∷ fs) = cond (is_missing g false f) (At (g.element f) (g.component f)) (test_rest g fs)
+unfoldable pub test_rest : Guide → List ℕ → Result (Unit {0}) Fault
+test_rest g [] = Ok tt
+test_rest g (f ∷ fs) = cond (is_missing g false f) (at_fault (g.element f) (g.component f)) (test_rest g fs)
 
 -- the elements from e on
-unfoldable pub test_elements : Service → Guide → ℕ → List (List Raw) → List ℕ → Fault
+unfoldable pub test_elements : Service → Guide → ℕ → List (List Raw) → List ℕ → Result (Unit {0}) Fault
 test_elements s g e [] fs = test_rest g fs
 test_elements s g e (x ∷ xs) fs = then_fault e (test_element s g e x fs) (test_elements s g (suc e) xs)
 
 -- of the segment whose tag starts at an offset. The tag has three bytes; what stands between it and the first element, in bytes that
 -- are no well-formed segment, is passed over.
-unfoldable pub fault_at : Service → Guide → List ℕ → ℕ → ℕ → Fault
+unfoldable pub fault_at : Service → Guide → List ℕ → ℕ → ℕ → Result (Unit {0}) Fault
 fault_at s g bs at line = test_elements s g 1 (further_in (cut s false (drop (at + 3) bs))) (numbers_from (g.first_field line) (g.field_count line))
 
 -- its numbers are small beside those of 32 bits, where the message is not longer than 01 allows
 abbrev pub Near : ℕ → ℕ → Type 0
 Near n x = x ≤ n + 256
 
-abbrev pub InReach : ℕ → Fault → Type 0
-InReach n (At e c) = Near n e × Near n c
-InReach n Clean = Unit {0}
+abbrev pub InReach : ℕ → Result (Unit {0}) Fault → Type 0
+InReach n (Err x) = Near n x.element × Near n x.component
+InReach n (Ok _) = Unit {0}
 
 -- ---- the segments of a message, k of them before these: 01, number 12: "first place, its line, and the smallest (element,
 -- component) at fault there"
 
-abbrev pub then_first : ℕ → ℕ → Fault → FirstFault → FirstFault
-then_first k line (At e c) more = first.At (suc k) line e c
-then_first k line Clean more = more
+abbrev pub first_at : ℕ → ℕ → ℕ → ℕ → Result (Unit {0}) FirstFault
+first_at place line e c = Err (record { place = place; line = line; element = e; component = c })
 
-unfoldable pub first_fault : Service → Guide → List ℕ → ℕ → List ℕ → List ℕ → FirstFault
-first_fault s g bs k [] homes = first.Clean
-first_fault s g bs k (at ∷ starts) [] = first.Clean
+abbrev pub then_first : ℕ → ℕ → Result (Unit {0}) Fault → Result (Unit {0}) FirstFault → Result (Unit {0}) FirstFault
+then_first k line (Err x) more = first_at (suc k) line x.element x.component
+then_first k line (Ok _) more = more
+
+unfoldable pub first_fault : Service → Guide → List ℕ → ℕ → List ℕ → List ℕ → Result (Unit {0}) FirstFault
+first_fault s g bs k [] homes = Ok tt
+first_fault s g bs k (at ∷ starts) [] = Ok tt
 first_fault s g bs k (at ∷ starts) (line ∷ homes) = then_first k line (fault_at s g bs at line) (first_fault s g bs (suc k) starts homes)
 
-abbrev pub FirstInReach : ℕ → FirstFault → Type 0
-FirstInReach n (first.At k line e c) = Near n e × Near n c
-FirstInReach n first.Clean = Unit {0}
+abbrev pub FirstInReach : ℕ → Result (Unit {0}) FirstFault → Type 0
+FirstInReach n (Err x) = Near n x.element × Near n x.component
+FirstInReach n (Ok _) = Unit {0}

@@ -1,5 +1,5 @@
 -- The message alone, without a book: numbers 3 to 9 of 01's table.
-use Rattle.std.specs.Prelude.{ℕ, suc, List, [], ◌∷◌, Bool, not, cond, ◌&&◌, ◌||◌, eqb, leb, ltb, length}
+use Rattle.std.specs.Prelude.{ℕ, suc, List, [], ◌∷◌, Bool, not, cond, ◌&&◌, ◌||◌, eqb, leb, ltb, length, Result, Ok, Err}
 use Rattle.framing.specs.meaning.Limits.{most_bytes, most_segments}
 use Rattle.reading.specs.method.Machine.{scanned, component_span}
 use Rattle.reading.specs.meaning.Component.{same_component}
@@ -10,9 +10,10 @@ use Rattle.reading.specs.declared.service.Service.{Service}
 use Rattle.reading.specs.method.Outcome.{Outcome, Segments, BadAt}
 use Rattle.reading.specs.method.Starts.{starts_from}
 use Rattle.framing.specs.meaning.Record.{answer}
+use Rattle.framing.specs.method.Refusals.{verdict_of}
 use Rattle.framing.specs.method.Decimal.{is_decimal}
-use Rattle.framing.specs.declared.survey.Frame.{Frame}
-use Rattle.framing.specs.declared.survey.Frame.TheVariants.{Misplaced, Closes}
+use Rattle.framing.specs.declared.refusal.Refusal.{Refusal}
+use Rattle.framing.specs.declared.refusal.Refusal.TheVariants.{Misplaced}
 use Rattle.framing.specs.declared.message.Room.{Room}
 use Rattle.framing.specs.declared.verdict.Verdict.{Verdict}
 
@@ -31,16 +32,23 @@ has_room room n = leb n room.starts && (leb n room.homes && leb n room.parents)
 -- ---- number 7
 
 -- 01: "segment 1 not UNH, segment n not UNT, or another is either; n = 1 always": UNH stands exactly at 1, and UNT exactly at n
+abbrev pub is_misplaced_at : Bool → Bool → ℕ → Bool
+is_misplaced_at is_first is_last tag =
+    cond is_first (not (eqb tag (tag_number UNH))) (eqb tag (tag_number UNH))
+    || cond is_last (not (eqb tag (tag_number UNT))) (eqb tag (tag_number UNT))
+
 abbrev pub is_misplaced : ℕ → ℕ → ℕ → Bool
-is_misplaced n k tag =
-    cond (eqb k 1) (not (eqb tag (tag_number UNH))) (eqb tag (tag_number UNH))
-    || cond (eqb k n) (not (eqb tag (tag_number UNT))) (eqb tag (tag_number UNT))
+is_misplaced n k tag = is_misplaced_at (eqb k 1) (eqb k n) tag
+
+-- where the last segment starts; or the fault, number 7
+abbrev pub Frame : Type 0
+Frame = Result ℕ Refusal
 
 -- "smallest such place" among the segments with these starts, of n segments, where k stand before and the last of those starts at
 -- `last`; or where the last of all starts
 unfoldable pub frame_from : List ℕ → ℕ → ℕ → ℕ → List ℕ → Frame
-frame_from bs n k last [] = Closes last
-frame_from bs n k last (at ∷ starts) = cond (is_misplaced n (suc k) (tag_at bs at)) (Misplaced (suc k)) (frame_from bs n (suc k) at starts)
+frame_from bs n k last [] = Ok last
+frame_from bs n k last (at ∷ starts) = cond (is_misplaced n (suc k) (tag_at bs at)) (Err (Misplaced (suc k))) (frame_from bs n (suc k) at starts)
 
 abbrev pub frame_of : Service → List ℕ → ℕ → Frame
 frame_of s bs n = frame_from bs n 0 0 (starts_from s bs n 0)
@@ -62,8 +70,8 @@ closing_stage s bs n last =
 -- ---- 3 to 9 in their order; number 0 and the segment count if there is none of these
 
 abbrev pub frame_stage : Service → List ℕ → ℕ → Frame → Verdict
-frame_stage s bs n (Misplaced k) = answer 7 k
-frame_stage s bs n (Closes last) = closing_stage s bs n last
+frame_stage s bs n (Err refusal) = verdict_of refusal
+frame_stage s bs n (Ok last) = closing_stage s bs n last
 
 abbrev pub count_stage : Service → List ℕ → Room → ℕ → Verdict
 count_stage s bs room n =

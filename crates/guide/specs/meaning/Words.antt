@@ -8,13 +8,15 @@ segment_kind = 1
 abbrev pub group_kind : ℕ
 group_kind = 2
 
--- a field: "presence (0 must be empty, 1 must have bytes, 2 may, 3 must if any component of its element has bytes)"; what may be there is
--- never asked for, and needs no name
+-- a field: "presence (0 must be empty, 1 must have bytes, 2 may, 3 must if any component of its element has bytes)"
 abbrev pub empty_presence : ℕ
 empty_presence = 0
 
 abbrev pub must_presence : ℕ
 must_presence = 1
+
+abbrev pub may_presence : ℕ
+may_presence = 2
 
 abbrev pub with_element_presence : ℕ
 with_element_presence = 3

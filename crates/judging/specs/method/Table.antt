@@ -1,6 +1,6 @@
 -- The verdict by 01's table, top to bottom, and the tables that it leaves: as it is worked out, for any bytes and any service
 -- characters. What each number means is said in demands/specs/meaning/Table.antt, and the demands say that it is this.
-use Rattle.std.specs.Prelude.{ℕ, ◌-◌, List, cond, ◌&&◌, eqb, length, get_or}
+use Rattle.std.specs.Prelude.{ℕ, ◌-◌, List, Option, cond, ◌&&◌, eqb, length, get_or}
 use Rattle.guide.specs.meaning.Guide.{Guide, guide_of}
 use Rattle.book.specs.method.Each.{is_good}
 use Rattle.reading.specs.declared.service.Service.{Service}
@@ -16,7 +16,6 @@ use Rattle.fields.specs.method.Testing.{first_fault}
 use Rattle.rules.specs.method.Conditions.{are_truth_values}
 use Rattle.rules.specs.method.Identifiers.{identified}
 use Rattle.rules.specs.method.Scanning.{scanned_row}
-use Rattle.rules.specs.declared.identifier.Identified.{Identified}
 use Rattle.judging.specs.method.Answers.{placing_verdict, fields_verdict, identified_verdict, rows_verdict}
 use Rattle.judging.specs.meaning.Tables.{is_refusal, Tables, room_of}
 
@@ -52,7 +51,7 @@ carrier_place g hs = place_from g.carrier 0 hs
 abbrev pub identifier_in : Service → Guide → List ℕ → List ℕ → List ℕ → List ℕ
 identifier_in s g bs starts hs = component_at s bs (get_or starts (carrier_place g hs - 1) 0) 1 2
 
-abbrev pub identifier_verdict : Guide → List ℕ → ℕ → List ℕ → Identified → Verdict
+abbrev pub identifier_verdict : Guide → List ℕ → ℕ → List ℕ → Option ℕ → Verdict
 identifier_verdict g cs n hs i = identified_verdict (carrier_place g hs) i (λ p. rows_verdict n (scanned_row g p cs hs))
 
 abbrev pub placed_verdict : Service → Guide → List ℕ → List ℕ → ℕ → List ℕ → List ℕ → Verdict

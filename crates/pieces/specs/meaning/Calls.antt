@@ -1,8 +1,9 @@
 -- The two calls, as a caller sees them: numbers in, numbers out. 02, T-09, as docs/DECISIONS.md reads it; what is quoted without a number stands there.
-use Rattle.std.specs.Prelude.{ℕ, ◌≡◌, ◌⊎◌, List}
+use Rattle.std.specs.Prelude.{ℕ, ◌≡◌, ◌⊎◌, List, Option, Some, None, Result, Ok, Err}
 use Rattle.slices.specs.meaning.Lent.{as_many_as_fit}
 use Rattle.framing.specs.meaning.Record.{numbers_of}
 use Rattle.framing.specs.declared.verdict.Verdict.{Verdict}
+use Rattle.pieces.specs.declared.outcome.NoState.{NoState}
 
 -- "entries of the state; all zeros is a message not yet begun"
 abbrev pub state_length : ℕ
@@ -15,6 +16,16 @@ goes_on_answer = 4294967295
 -- "reading_len is not 8; nothing changes"
 abbrev pub no_state : ℕ
 no_state = 4294967294
+
+-- the number of what a piece is answered, and of what the end is
+abbrev pub piece_number : Result (Option Verdict) NoState → ℕ
+piece_number (Ok (Some v)) = v.number
+piece_number (Ok None) = goes_on_answer
+piece_number (Err _) = no_state
+
+abbrev pub end_number : Result Verdict NoState → ℕ
+end_number (Ok v) = v.number
+end_number (Err _) = no_state
 
 -- what comes back of either call: the number that is returned, and the lent state and record as they are then
 pub record Left : Type 0 where

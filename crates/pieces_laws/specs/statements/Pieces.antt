@@ -5,16 +5,19 @@ use Rattle.reading.specs.meaning.Service.{GoodService}
 use Rattle.reading.specs.declared.service.Service.{Service}
 use Rattle.pieces.specs.meaning.Calls.{Left}
 use Rattle.pieces.specs.meaning.Pieces.{ReadAsOne}
+use Rattle.pieces.specs.meaning.Calls.{piece_number, end_number}
 use Rattle.pieces.proofs.read_piece.Reads as read_piece
 use Rattle.pieces.proofs.read_end.Reads as read_end
 
 -- An outcome that the contract of a piece admits. The contract has the arguments one in another, in their order: the service characters, the state's
--- numbers, the piece, the starts and the record.
+-- numbers, the piece, the starts and the record. What is answered is told by its number, as C has it.
 pub record PiecePromised (s : Service) (state piece starts entries : List ℕ) (l : Left) (left : List ℕ) : Type 1 where
   pub lifetimes : _
   pub passed : _
+  pub outcome : _
   pub at_exit : _
-  pub promise : read_piece.Post lifetimes passed l.answer at_exit
+  pub promise : read_piece.Post lifetimes passed outcome at_exit
+  pub answered : l.answer ≡ piece_number outcome
   pub service : passed.0 ≡ s
   pub state_before : passed.1.0.now ≡ state
   pub piece_before : passed.1.1.0.now ≡ piece
@@ -28,8 +31,10 @@ pub record PiecePromised (s : Service) (state piece starts entries : List ℕ) (
 pub record EndPromised (state entries : List ℕ) (l : Left) : Type 1 where
   pub lifetimes : _
   pub passed : _
+  pub outcome : _
   pub at_exit : _
-  pub promise : read_end.Post lifetimes passed l.answer at_exit
+  pub promise : read_end.Post lifetimes passed outcome at_exit
+  pub answered : l.answer ≡ end_number outcome
   pub state_before : passed.0.now ≡ state
   pub entries_before : passed.1.0.now ≡ entries
   pub state_after : at_exit.0.now ≡ l.state

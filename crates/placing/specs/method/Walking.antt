@@ -1,12 +1,11 @@
 -- The walk through the lines as it is done, home by home: the open lines, outermost first, each with how often it has come in its
 -- parent's instance. No open line is a refusal. 01: "The open line and a count kept for each of the eight depths tell how far it
 -- has come." The laws of placing_laws say what the walk means in terms of placement trees.
-use Rattle.std.specs.Prelude.{ℕ, zero, suc, ◌-◌, ◌≤◌, ◌<◌, ◌≡◌, List, [], ◌∷◌, ◌++◌, Bool, true, false, cond, not, ◌&&◌, eqb, ltb, leb, length, get_or, set, take, drop}
+use Rattle.std.specs.Prelude.{ℕ, zero, suc, ◌-◌, ◌≤◌, ◌<◌, ◌≡◌, List, [], ◌∷◌, ◌++◌, Bool, true, false, cond, not, ◌&&◌, eqb, ltb, leb, length, get_or, take, drop}
 use Rattle.guide.specs.meaning.Plan.{Plan, is_trigger}
 use Rattle.guide.specs.method.Targets.{target}
 use Rattle.placing.specs.declared.walk.Level.{Level}
 use Rattle.placing.specs.declared.walk.Walk.{Walk}
-use Rattle.placing.specs.declared.walk.Move.{Move}
 
 abbrev pub level : ℕ → ℕ → Level
 level l n = record { line = l; count = n }
@@ -90,31 +89,4 @@ is_alive (v ∷ vs) = true
 -- ---- the state that the code keeps
 
 abbrev pub open_lines : Walk → List Level
-open_lines w = take w.height w.levels
-
--- what every walk keeps: eight levels, of which so many are open
-pub record Ready (w : Walk) : Type 0 where
-  pub eight : length w.levels ≡ 8
-  pub low : w.height ≤ 8
-
--- which homes a walk stands for: it has come through these, or it has been refused on the way
-pub record StandsFor (b : Plan) (hs : List ℕ) (w : Walk) : Type 0 where
-  pub ready : Ready w
-  pub lines : open_lines w ≡ walked b start hs
-
--- ---- a move
-
--- the walk once a move has been made
-abbrev pub made : Move → Walk → Walk
-made m w = record { levels = set (set w.levels m.depth m.level) m.last m.deepest; height = m.height }
-
--- it changes none but the eight levels
-pub record WithinEight (m : Move) : Type 0 where
-  pub high : m.depth < 8
-  pub deep : m.last < 8
-
--- after it these lines are open
-pub record Opens (m : Move) (w : Walk) (vs : List Level) : Type 0 where
-  pub within : WithinEight m
-  pub ready : Ready (made m w)
-  pub lines : open_lines (made m w) ≡ vs
+open_lines w = w.levels.items

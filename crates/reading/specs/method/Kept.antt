@@ -1,15 +1,14 @@
 -- What one function of the code keeps for another: no definition of 01's, and no promise of a public call.
-use Rattle.std.specs.Prelude.{ℕ, ◌+◌, ◌-◌, ◌≤◌, ◌≡◌, List, Bool, true, false, eqb, ltb, length, drop, get_or}
+use Rattle.std.specs.Prelude.{ℕ, ◌+◌, ◌-◌, ◌≤◌, ◌<◌, ◌≡◌, List, Bool, true, false, eqb, ltb, length, drop, get_or, Option, Some, None}
 use Rattle.reading.specs.method.Machine.{pick, end_on, segment_end}
 use Rattle.reading.specs.declared.service.Service.{Service}
 use Rattle.reading.specs.declared.machine.State.{State}
 use Rattle.reading.specs.declared.machine.State.TheVariants.{Tagged, Opened, Parted, Inside}
-use Rattle.reading.specs.declared.cursor.End.TheVariants.{Nowhere}
 
 -- a tag stands there and a byte behind it, from where reading goes on; or no segment does
 abbrev pub TagOrNone : List ℕ → ℕ → Bool → Type 0
 TagOrNone bs at true = (at + 4 ≤ length bs) × ((s : Service) → segment_end s bs at ≡ end_on s Tagged (at + 3) (drop (at + 3) bs))
-TagOrNone bs at false = (s : Service) → segment_end s bs at ≡ Nowhere
+TagOrNone bs at false = (s : Service) → segment_end s bs at ≡ None
 
 -- the state that two flags stand for: whether the byte before opens an element, and whether it parts two components
 abbrev pub held_by : Bool → Bool → State
@@ -29,3 +28,8 @@ pub record Passed (s : Service) (bs : List ℕ) (from at : ℕ) : Type 0 where
   pub onward : from ≤ at
   pub same : (opened parted : Bool)
       → end_on s (held_by opened parted) from (drop from bs) ≡ end_on s (held_by (opened_by from at opened) (marked_by s bs from at parted)) at (drop at bs)
+
+-- text ends within the bytes; or it goes on to their end, and so does the segment that it stands in
+abbrev pub PassedOrEnd : Service → List ℕ → ℕ → Option ℕ → Type 0
+PassedOrEnd s bs from (Some at) = Passed s bs from at × (at < length bs)
+PassedOrEnd s bs from None = (opened parted : Bool) → end_on s (held_by opened parted) from (drop from bs) ≡ None

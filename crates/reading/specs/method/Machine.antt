@@ -1,6 +1,6 @@
 -- The reading as it is done, byte by byte: definitions that compute, total for any five service characters.
 -- The laws of reading_laws say that, under a good set, they mean what Message, WellFormed and Component say.
-use Rattle.std.specs.Prelude.{ℕ, ◌+◌, List, [], ◌∷◌, Bool, true, false, not, ◌&&◌, eqb, leb, ltb, length, drop}
+use Rattle.std.specs.Prelude.{ℕ, ◌+◌, List, [], ◌∷◌, Bool, true, false, not, ◌&&◌, eqb, leb, ltb, length, drop, Option, Some, None}
 use Rattle.reading.specs.meaning.Service.{is_data, is_tag_byte}
 use Rattle.reading.specs.meaning.Component.{span}
 use Rattle.reading.specs.declared.service.Service.{Service}
@@ -10,10 +10,7 @@ use Rattle.reading.specs.declared.bytes.Kind.TheVariants.{Component, Element, Te
 use Rattle.reading.specs.declared.machine.State.{State}
 use Rattle.reading.specs.declared.machine.State.TheVariants.{Start, Second, Third, Tagged, Opened, Parted, Inside, Released, Dead}
 use Rattle.reading.specs.method.Outcome.{Outcome, Segments, BadAt}
-use Rattle.reading.specs.declared.cursor.End.{End}
-use Rattle.reading.specs.declared.cursor.End.TheVariants.{At, Nowhere}
-use Rattle.reading.specs.declared.cursor.Found.{Found}
-use Rattle.reading.specs.declared.cursor.Found.TheVariants.{Segment, Nothing}
+use Rattle.reading.specs.declared.cursor.Cursor.{Cursor}
 
 -- ---- a byte
 
@@ -141,25 +138,20 @@ bad_from s bs from = bad_on s Start from (drop from bs)
 
 -- ---- a segment's end
 
-unfoldable pub end_on : Service → State → ℕ → List ℕ → End
-end_on s p at [] = Nowhere
+unfoldable pub end_on : Service → State → ℕ → List ℕ → Option ℕ
+end_on s p at [] = None
 end_on s p at (b ∷ bs) =
-    pick (is_start (stepped s p b)) (At at)
-    (pick (is_dead (stepped s p b)) Nowhere (end_on s (stepped s p b) (at + 1) bs))
+    pick (is_start (stepped s p b)) (Some at)
+    (pick (is_dead (stepped s p b)) None (end_on s (stepped s p b) (at + 1) bs))
 
-abbrev pub segment_end : Service → List ℕ → ℕ → End
+abbrev pub segment_end : Service → List ℕ → ℕ → Option ℕ
 segment_end s bs at = end_on s Start at (drop at bs)
 
--- as a number, which is the message's length where there is none
-abbrev pub or_length : List ℕ → End → ℕ
-or_length bs (At end) = end
-or_length bs Nowhere = length bs
+abbrev pub found_by : ℕ → Option ℕ → Option (Span × Cursor)
+found_by at (Some end) = Some (span at end, record { at = end + 1 })
+found_by at None = None
 
-abbrev pub found_by : ℕ → End → Found
-found_by at (At end) = Segment (span at end) (record { at = end + 1 })
-found_by at Nowhere = Nothing
-
-abbrev pub next_segment : Service → List ℕ → ℕ → Found
+abbrev pub next_segment : Service → List ℕ → ℕ → Option (Span × Cursor)
 next_segment s bs at = found_by at (segment_end s bs at)
 
 -- ---- a component: a search through a segment
@@ -217,9 +209,9 @@ abbrev pub seek_from : Service → List ℕ → ℕ → ℕ → ℕ → Span
 seek_from s bs from e c = seek_on s e c (seek 0 0 from false) from (drop from bs)
 
 -- the tag has three bytes
-abbrev pub span_by : Service → List ℕ → ℕ → ℕ → ℕ → End → Span
-span_by s bs at e c (At end) = seek_from s bs (at + 3) e c
-span_by s bs at e c Nowhere = span (length bs) (length bs)
+abbrev pub span_by : Service → List ℕ → ℕ → ℕ → ℕ → Option ℕ → Span
+span_by s bs at e c (Some end) = seek_from s bs (at + 3) e c
+span_by s bs at e c None = span (length bs) (length bs)
 
 abbrev pub component_span : Service → List ℕ → ℕ → ℕ → ℕ → Span
 component_span s bs at e c =

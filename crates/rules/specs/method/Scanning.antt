@@ -1,7 +1,7 @@
 -- The first row as the code finds it, for any book, conditions and homes: line by line, in one pass over the homes, with what a row
 -- comes to worked out once for a line. The law scanned (rules_laws/proofs/Scanned.antt) says that in a good book, for the homes of a placed
 -- message, this is the first row of rules_laws/specs/laws/FirstFound.antt.
-use Rattle.std.specs.Prelude.{ℕ, zero, suc, List, [], ◌∷◌, Bool, true, false, not, cond, ◌&&◌, ◌||◌, eqb, ltb}
+use Rattle.std.specs.Prelude.{ℕ, zero, suc, List, [], ◌∷◌, Bool, true, false, not, cond, ◌&&◌, ◌||◌, eqb, ltb, Result, Ok, Err}
 use Rattle.guide.specs.meaning.Guide.{Guide}
 use Rattle.guide.specs.meaning.View.{Row, row_of, in_use}
 use Rattle.guide.specs.meaning.Words.{any_joint}
@@ -14,7 +14,7 @@ use Rattle.rules.specs.declared.breach.Breach.{Breach}
 use Rattle.rules.specs.declared.breach.Breach.TheVariants.{Never, Always, Sometimes}
 use Rattle.rules.specs.declared.watch.Watch.{Watch}
 use Rattle.rules.specs.declared.finding.Finding.{Finding}
-use Rattle.rules.specs.declared.finding.Finding.TheVariants.{Kept, Broken, Unsettled}
+use Rattle.rules.specs.declared.finding.Finding.TheVariants.{Broken, Unsettled}
 
 -- ---- two readings of a row: every literal of an unknown condition is false, and every one is true
 
@@ -108,36 +108,34 @@ instances_in trigger sign hs =
 
 -- ---- line by line, instance by instance, up to the first row that is not kept
 
-abbrev pub report_of : Breach → ℕ → ℕ → Finding
-report_of Never place line = Kept
-report_of Always place line = Broken place line
-report_of (Sometimes k) place line = Unsettled place line k
+-- nothing, or the first row that is not kept
+abbrev pub Outcome : Type 0
+Outcome = Result (Unit {0}) Finding
 
-abbrev pub report_in : Watch → ℕ → Instance → Finding
+abbrev pub report_of : Breach → ℕ → ℕ → Outcome
+report_of Never place line = Ok tt
+report_of Always place line = Err (Broken place line)
+report_of (Sometimes k) place line = Err (Unsettled place line k)
+
+abbrev pub report_in : Watch → ℕ → Instance → Outcome
 report_in w l i = report_of (cond (eqb i.seen 0) w.absent w.present) (place_in i.trigger i.seen) l
 
-abbrev pub first_found : Finding → Finding → Finding
-first_found Kept rest = rest
-first_found (Broken place line) rest = Broken place line
-first_found (Unsettled place line k) rest = Unsettled place line k
+abbrev pub first_found : Outcome → Outcome → Outcome
+first_found (Ok nothing) rest = rest
+first_found (Err found) rest = Err found
 
-abbrev pub is_kept : Finding → Bool
-is_kept Kept = true
-is_kept (Broken place line) = false
-is_kept (Unsettled place line k) = false
-
-unfoldable pub scanned_in : Watch → ℕ → List Instance → Finding → Finding
+unfoldable pub scanned_in : Watch → ℕ → List Instance → Outcome → Outcome
 scanned_in w l [] rest = rest
 scanned_in w l (i ∷ is) rest = first_found (report_in w l i) (scanned_in w l is rest)
 
 -- a line that no instance can break is passed over
-abbrev pub scanned_line : Watch → ℕ → List ℕ → Finding → Finding
+abbrev pub scanned_line : Watch → ℕ → List ℕ → Outcome → Outcome
 scanned_line w l hs rest = cond (is_idle w) rest (scanned_in w l (instances_in w.trigger w.sign hs) rest)
 
-unfoldable pub scanned_from : Guide → ℕ → List ℕ → List ℕ → ℕ → ℕ → Finding
-scanned_from g p cs hs l zero = Kept
+unfoldable pub scanned_from : Guide → ℕ → List ℕ → List ℕ → ℕ → ℕ → Outcome
+scanned_from g p cs hs l zero = Ok tt
 scanned_from g p cs hs l (suc count) = scanned_line (watch_of g p cs l) l hs (scanned_from g p cs hs (suc l) count)
 
 -- of a Prüfidentifikator that the book does not have there are no rows
-abbrev pub scanned_row : Guide → ℕ → List ℕ → List ℕ → Finding
-scanned_row g p cs hs = cond (ltb p g.identifiers) (scanned_from g p cs hs 1 g.lines) Kept
+abbrev pub scanned_row : Guide → ℕ → List ℕ → List ℕ → Outcome
+scanned_row g p cs hs = cond (ltb p g.identifiers) (scanned_from g p cs hs 1 g.lines) (Ok tt)

@@ -1,8 +1,7 @@
 -- `tracksaddle_find_component` meets its contract: two numbers put one after the other are as many of the two as fit.
-use Prim.Native.Nat.{◌-◌, ◌≤◌}
+use Prim.Native.Nat.{◌≤◌}
 use native.Mathlib.Omega.{arith}
-use mathlib.Core.Path.{◌≡◌, refl, ap, ◌∙◌}
-use lib.ListN.{set}
+use mathlib.Core.Path.{refl, ap, ◌∙◌}
 use Rattle.reading.specs.method.Machine.{component_span}
 use Rattle.reading.specs.declared.service.Service.{Service}
 use Rattle.reading.specs.declared.span.Span.{Span}
@@ -12,22 +11,14 @@ use Rattle.slices.proofs.Fitting.{puts_fit}
 use Rattle.tracksaddle.specs.meaning.Door.{part_numbers}
 use Rattle.tracksaddle.proofs.tracksaddle_find_component.Goals as goal
 
-pub overflow_sub-end : goal.overflow_sub-end
-overflow_sub-end c =
-    let args = c.args in
-    let span = c.component_span-span.result in
-    let ordered : span.start ≤ span.end =
-    rw c.component_span-span.ensures (span_inside c.standard.result args.message.now args.at args.element args.component).ordered in
+pub overflow_sub-span : goal.overflow_sub-span
+overflow_sub-span c =
+    let ordered : c.component_span-span.result.start ≤ c.component_span-span.result.end =
+    rw c.component_span-span.ensures (span_inside c.standard.result c.args.message.now c.args.at c.args.element c.args.component).ordered in
     omega arith
 
 pub returns : goal.returns
 returns c =
-    let spanned = c.component_span-span in
-    let args = c.args in
-    let span = spanned.result in
-    let once = c.put_size.new.table in
-    let offset : once ≡ set args.part.now 0 span.start = c.put_size.ensures in
-    let long : c.put_size-2.new.table ≡ set once 1 (span.end - span.start) = c.put_size-2.ensures in
-    puts_fit (part_numbers span) args.part.now _ (_, offset, (_, long, refl))
-    ∙ ap (λ (x : Span). as_many_as_fit (part_numbers x) args.part.now)
-    (spanned.ensures ∙ ap (λ (s : Service). component_span s args.message.now args.at args.element args.component) c.standard.ensures)
+    puts_fit (part_numbers c.component_span-span.result) c.args.part.now _ (_, c.put.ensures, (_, c.put-2.ensures, refl))
+    ∙ ap (λ (x : Span). as_many_as_fit (part_numbers x) c.args.part.now)
+    (c.component_span-span.ensures ∙ ap (λ (s : Service). component_span s c.args.message.now c.args.at c.args.element c.args.component) c.standard.ensures)

@@ -1,18 +1,19 @@
--- `check::is_around` meets its contract: it joins the tests as the rule joins its parts.
-use Prim.Native.Nat.{◌+◌, ℕ}
-use mathlib.Core.Path.{◌∙◌, ap}
-use lib.Dec.{leb}
-use Rattle.book.specs.meaning.GoodBook.{around_rule, deeper_rule}
+-- `check::is_around` meets its contract: it asks of each line between.
+use Prim.Native.Nat.{◌+◌, ◌-◌}
+use mathlib.Core.Path.{sym, ◌∙◌}
+use Rattle.book.proofs.Rules.{goes_on}
+use native.Mathlib.Omega.{arith}
+use borrow.Author.Tests.{tests, le-leb}
+use Rattle.std.proofs.Common.{rules}
 use Rattle.guide.specs.meaning.Guide.{guide_of}
-use Rattle.book.specs.meaning.Rule.{every}
-use Rattle.book.specs.method.Run.{run}
-use Rattle.guide.specs.meaning.Words.{group_kind}
-use Rattle.book.proofs.Joining.{as_is, both, is}
+use Rattle.book.specs.meaning.GoodBook.{around_rule, deeper_rule}
+use Rattle.book.proofs.Ranges.{every_asked}
 use Rattle.book.proofs.check.is_around.Goals as goal
 
-pub returns : goal.returns
+pub returns-then-line-other : goal.returns-then-line-other
 unfolding around_rule
-returns c =
-    let less = c.less-count in
-    let args = c.args in
-    both (is group_kind c.kind.ensures.0) (both (as_is (leb (args.line + 1) args.other)) (c.every.ensures ∙ ap (λ (n : ℕ). run (every (args.line + 1) n (deeper_rule (guide_of args.book.now) args.line))) less.ensures.0))
+returns-then-line-other c =
+    goes_on _ _ _ (sym c.is_group.ensures ∙ c.if-line-other.true.0)
+    (goes_on _ _ _ (le-leb (c.args.line + 1) c.args.other (omega (arith, c.if-line-other.true.1)))
+    (every_asked (deeper_rule (guide_of c.args.book.now) c.args.line) (c.args.line + 1) (c.args.other + 1) (c.args.other - c.args.line) _ _ c.all.result c.all.ensures.ran (omega arith)
+    (λ x b q k. search (rules, tests))))

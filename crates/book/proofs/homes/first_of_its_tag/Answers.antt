@@ -1,21 +1,19 @@
-use native.Mathlib.Omega.{arith}
-use mathlib.Core.Path.{refl, sym, ◌∙◌}
+-- `homes::first_of_its_tag` meets its contract: a line of another tag is passed over, since nothing is asked of the pair.
+use Prim.Native.Nat.{ℕ}
+use mathlib.Core.Path.{◌≡◌}
+use mathlib.Core.Bool.{true, false}
+use borrow.Author.Tests.{tests}
+use Rattle.std.proofs.Common.{rules}
 use Rattle.guide.specs.meaning.Guide.{guide_of}
-use Rattle.book.proofs.Passing.{passed_on}
+use Rattle.std.proofs.lemmas.Iterator.{first_from_Range}
+use Rattle.book.specs.method.Run.{run}
+use Rattle.book.specs.meaning.GoodBook.{same_tag_rule}
+use Rattle.book.proofs.Passing.{passed_found}
 use Rattle.book.proofs.homes.first_of_its_tag.Goals as goal
 
-pub loop-earlier-init : goal.loop-earlier-init
-loop-earlier-init c = record { some = omega arith; within = c.requires; same = refl }
-
-pub returns-then-have_same_tag : goal.returns-then-have_same_tag
-returns-then-have_same_tag c = c.loop-earlier.invariant
-
-pub loop-earlier-preserved : goal.loop-earlier-preserved
-loop-earlier-preserved c =
-    let loop-test = c.loop-earlier-test in
-    let loop = c.loop-earlier in
-    let args = c.args in
-    passed_on (guide_of args.book.now) args.line loop.earlier loop-test.true (sym c.have_same_tag.ensures ∙ c.if-have_same_tag.false) loop.invariant
-
 pub returns : goal.returns
-returns c = c.loop-earlier.invariant
+returns c =
+    let g = guide_of c.args.book.now in
+    passed_found g c.args.line c.find.result c.requires
+    (first_from_Range (record { start = 1; end = c.args.line }) _ _ c.find.result (λ (l : ℕ). run (same_tag_rule g l c.args.line) ≡ true) (λ (l : ℕ). run (same_tag_rule g l c.args.line) ≡ false) c.find.ensures.ran
+    (λ x q k. search (rules, tests)) (λ x q k. search (rules, tests)))

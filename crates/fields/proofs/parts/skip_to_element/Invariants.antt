@@ -5,7 +5,7 @@ use Rattle.fields.proofs.Cutting.{Skipping}
 use Rattle.fields.proofs.parts.skip_to_element.Given as goal
 
 abbrev pub invariant-loop-service : goal.invariant-loop-service
-invariant-loop-service l = Skipping l.service l.message l.from l.start
+invariant-loop-service l = Skipping l.service l.message l.from l.end
 
 abbrev pub decreases-loop-service : goal.decreases-loop-service
-decreases-loop-service l = length l.message - l.start
+decreases-loop-service l = length l.message - l.end

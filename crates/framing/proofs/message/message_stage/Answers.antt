@@ -1,47 +1,39 @@
--- `message::message_stage` meets its contract. A bad place lies within the message, so it fits.
-use native.Mathlib.Omega.{arith}
-use mathlib.Core.Path.{sym, ◌∙◌}
-use Rattle.framing.proofs.Frames.{survey_bad, survey_good}
-use Rattle.framing.proofs.Messages.{bad_within, sized_within, message_unsized, message_scanned}
+-- `message::message_stage` meets its contract.
+use mathlib.Core.Path.{sym, ap, ◌∙◌}
+use mathlib.Core.Bool.{true, false}
+use Rattle.std.proofs.lemmas.Result.{err_from_is_err_and}
+use Rattle.framing.specs.method.Stages.{frame_stage}
+use Rattle.framing.proofs.Messages.{message_unsized, message_bad, message_counted, count_high, count_low}
 use Rattle.framing.proofs.message.message_stage.Goals as goal
 
 pub returns-then-not-is_sized : goal.returns-then-not-is_sized
-returns-then-not-is_sized c =
-    let is-sized = c.is_sized in
-    let args = c.args in
-    c.answer.ensures ∙ message_unsized args.service args.message.now args.room _ c.if-not-is_sized.true is-sized.ensures
+returns-then-not-is_sized c = message_unsized _ _ _ _ c.if-not-is_sized.true c.is_sized.ensures
 
-pub make_survey-requires : goal.make_survey-requires
-make_survey-requires c = sized_within c.args.message.now (sym c.is_sized.ensures ∙ c.if-not-is_sized.false)
+pub returns-in_err-survey : goal.returns-in_err-survey
+returns-in_err-survey c =
+    let p = err_from_is_err_and c.from_residual.result c.from_residual.ensures.1 in
+    rw (p.1, p.2) (message_bad _ _ _ _ c.if-not-is_sized.false c.is_sized.ensures _ c.in_err-survey.ensures)
 
-pub overflow_cast-place : goal.overflow_cast-place
-overflow_cast-place c =
-    let make-survey = c.make_survey in
-    let if1 = c.if-not-is_sized in
-    let is-sized = c.is_sized in
-    let args = c.args in
-    let w = bad_within args.service args.message.now _ (sym (survey_bad args.service args.message.now _ (sym c.in-BadAt.is ∙ make-survey.ensures))) in let h = sized_within args.message.now (sym is-sized.ensures ∙ if1.false) in omega arith
+pub returns-then-segments-gt-LIMIT_SEGMENTS : goal.returns-then-segments-gt-LIMIT_SEGMENTS
+returns-then-segments-gt-LIMIT_SEGMENTS c =
+    count_high _ _ _ _ c.if-segments-gt-LIMIT_SEGMENTS.true
+    ∙ (message_counted _ _ _ _ c.if-not-is_sized.false c.is_sized.ensures _ c.in_ok-survey.ensures).0
 
-pub count_stage-requires : goal.count_stage-requires
-count_stage-requires c =
-    let make-survey = c.make_survey in
-    let args = c.args in
-    (survey_good args.service args.message.now _ _ (sym c.in-Segments.is ∙ make-survey.ensures)).1
+pub returns-then-not-holds : goal.returns-then-not-holds
+returns-then-not-holds c =
+    count_low _ _ _ _ _ false c.if-segments-gt-LIMIT_SEGMENTS.false c.holds.ensures c.if-not-holds.true
+    ∙ (message_counted _ _ _ _ c.if-not-is_sized.false c.is_sized.ensures _ c.in_ok-survey.ensures).0
 
-pub returns-in-BadAt : goal.returns-in-BadAt
-returns-in-BadAt c =
-    let place = c.in-BadAt in
-    let if1 = c.if-not-is_sized in
-    let make-survey = c.make_survey in
-    let is-sized = c.is_sized in
-    let args = c.args in
-    c.answer-in-BadAt.ensures ∙ message_scanned args.service args.message.now args.room _ _ if1.false is-sized.ensures (survey_bad args.service args.message.now _ (sym place.is ∙ make-survey.ensures))
+pub returns-in_err-last : goal.returns-in_err-last
+returns-in_err-last c =
+    let p = err_from_is_err_and c.from_residual-in_err-last.result c.from_residual-in_err-last.ensures.1 in
+    let counted = message_counted _ _ _ _ c.if-not-is_sized.false c.is_sized.ensures _ c.in_ok-survey.ensures in
+    rw (p.1, p.2)
+    (ap (frame_stage c.args.service c.args.message.now c.in_ok-survey.survey.segments) (sym c.in_err-last.was ∙ counted.1)
+    ∙ count_low _ _ _ _ _ true c.if-segments-gt-LIMIT_SEGMENTS.false c.holds.ensures c.if-not-holds.false ∙ counted.0)
 
-pub returns-in-Segments : goal.returns-in-Segments
-returns-in-Segments c =
-    let segments = c.in-Segments in
-    let if1 = c.if-not-is_sized in
-    let make-survey = c.make_survey in
-    let is-sized = c.is_sized in
-    let args = c.args in
-    c.count_stage.ensures ∙ message_scanned args.service args.message.now args.room _ _ if1.false is-sized.ensures (survey_good args.service args.message.now _ _ (sym segments.is ∙ make-survey.ensures)).0
+pub returns : goal.returns
+returns c =
+    let counted = message_counted _ _ _ _ c.if-not-is_sized.false c.is_sized.ensures _ c.in_ok-survey.ensures in
+    c.closing_stage.ensures ∙ ap (frame_stage c.args.service c.args.message.now c.in_ok-survey.survey.segments) (sym c.in_ok-last.was ∙ counted.1)
+    ∙ count_low _ _ _ _ _ true c.if-segments-gt-LIMIT_SEGMENTS.false c.holds.ensures c.if-not-holds.false ∙ counted.0

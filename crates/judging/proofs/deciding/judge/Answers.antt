@@ -1,25 +1,20 @@
 -- `deciding::judge` meets its contract: a refusal leaves the tables alone, and after it nothing is refused.
+use mathlib.Core.Path.{refl, sym, ap, ◌∙◌}
+use Rattle.framing.specs.declared.verdict.Verdict.{Verdict}
 use Rattle.judging.specs.meaning.Tables.{tables}
+use Rattle.judging.proofs.Refusals.{refused}
 use Rattle.judging.proofs.Decided.{decided_refused, decided_placed, within}
 use Rattle.judging.proofs.deciding.judge.Goals as goal
 
-pub returns-then-refusal-ne0 : goal.returns-then-refusal-ne0
-returns-then-refusal-ne0 c =
-    let refuse = c.refuse-refusal in
-    let args = c.args in
-    decided_refused args.service args.message.now args.book.now args.conditions.now (tables args.starts.now args.homes.now args.parents.now) _ refuse.ensures (c.if-refusal-ne0.true)
+pub returns-in-Err : goal.returns-in-Err
+returns-in-Err c =
+    decided_refused _ _ _ _ (tables c.args.starts.now c.args.homes.now c.args.parents.now) _ (c.into.ensures ∙ c.in-Err.ensures)
+    (λ z. refused c.in-Err.refusal (ap (λ (v : Verdict). v.number) (sym c.into.ensures) ∙ z))
 
 pub placed_stage-requires : goal.placed_stage-requires
-placed_stage-requires c =
-    let if1 = c.if-refusal-ne0 in
-    let refuse = c.refuse-refusal in
-    let args = c.args in
-    within args.service args.message.now args.book.now args.conditions.now (tables args.starts.now args.homes.now args.parents.now) _ refuse.ensures if1.false
+placed_stage-requires c = within _ _ _ _ (tables c.args.starts.now c.args.homes.now c.args.parents.now) _ c.in-Ok.ensures refl
 
 pub returns : goal.returns
 returns c =
-    let write_tree = c.write_tree in
-    let if1 = c.if-refusal-ne0 in
-    let refuse = c.refuse-refusal in
-    let args = c.args in
-    decided_placed args.service args.message.now args.book.now args.conditions.now (tables args.starts.now args.homes.now args.parents.now) _ refuse.ensures if1.false _ _ _ write_tree.ensures.0 write_tree.ensures.1 write_tree.ensures.2 _ (c.placed_stage.ensures)
+    decided_placed _ _ _ _ (tables c.args.starts.now c.args.homes.now c.args.parents.now) _ c.in-Ok.ensures refl _ _ _
+    c.write_tree.ensures.starts c.write_tree.ensures.homes c.write_tree.ensures.parents _ c.placed_stage.ensures

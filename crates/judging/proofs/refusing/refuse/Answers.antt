@@ -1,37 +1,27 @@
 -- `refusing::refuse` meets its contract: the first stage that answers a fault is the answer.
-use Rattle.judging.proofs.Refusals.{refused_book, refused_conditions, refused_message, refused_placing}
+use Rattle.std.proofs.lemmas.Result.{err_from_is_err_and}
+use Rattle.judging.proofs.Refusals.{book_bad, book_good, refused_book, refused_conditions, refused_message, refused_placing, passed_all}
 use Rattle.judging.proofs.refusing.refuse.Goals as goal
 
-pub returns-then-of_book-ne0 : goal.returns-then-of_book-ne0
-returns-then-of_book-ne0 c =
-    let book-stage = c.book_stage-of_book in
-    let args = c.args in
-    refused_book args.service args.message.now args.book.now args.conditions.now args.room _ book-stage.ensures (c.if-of_book-ne0.true)
+pub returns-in_err-check_book : goal.returns-in_err-check_book
+returns-in_err-check_book c =
+    let p = err_from_is_err_and c.from_residual.result c.from_residual.ensures.1 in
+    rw (p.1, p.2) (refused_book _ _ _ _ _ (book_bad _ c.in_err-check_book.ensures))
 
-pub returns-then-of_conditions-ne0 : goal.returns-then-of_conditions-ne0
-returns-then-of_conditions-ne0 c =
-    let if1 = c.if-of_book-ne0 in
-    let conditions-stage = c.conditions_stage-of_conditions in
-    let book-stage = c.book_stage-of_book in
-    let args = c.args in
-    refused_conditions args.service args.message.now args.book.now args.conditions.now args.room _ book-stage.ensures if1.false _ conditions-stage.ensures (c.if-of_conditions-ne0.true)
+pub returns-then-not-are_conditions : goal.returns-then-not-are_conditions
+returns-then-not-are_conditions c = refused_conditions _ _ _ _ _ (book_good _ c.in_ok-check_book.ensures) _ c.are_conditions.ensures c.if-not-are_conditions.true
 
-pub returns-then-of_message-ne0 : goal.returns-then-of_message-ne0
-returns-then-of_message-ne0 c =
-    let if2 = c.if-of_conditions-ne0 in
-    let message_stage = c.message_stage-of_message in
-    let if1 = c.if-of_book-ne0 in
-    let conditions-stage = c.conditions_stage-of_conditions in
-    let book-stage = c.book_stage-of_book in
-    let args = c.args in
-    refused_message args.service args.message.now args.book.now args.conditions.now args.room _ book-stage.ensures if1.false _ conditions-stage.ensures if2.false _ message_stage.ensures (c.if-of_message-ne0.true)
+pub returns-in_err-segments : goal.returns-in_err-segments
+returns-in_err-segments c =
+    let p = err_from_is_err_and c.from_residual-in_err-segments.result c.from_residual-in_err-segments.ensures.1 in
+    rw (p.1, p.2)
+    (refused_message _ _ _ _ _ (book_good _ c.in_ok-check_book.ensures) _ c.are_conditions.ensures c.if-not-are_conditions.false _ c.in_err-segments.ensures)
+
+pub returns-in_err-test_placing : goal.returns-in_err-test_placing
+returns-in_err-test_placing c =
+    let p = err_from_is_err_and c.from_residual-in_err-test_placing.result c.from_residual-in_err-test_placing.ensures.1 in
+    rw (p.1, p.2)
+    (refused_placing _ _ _ _ _ (book_good _ c.in_ok-check_book.ensures) _ c.are_conditions.ensures c.if-not-are_conditions.false _ c.in_ok-segments.ensures _ c.in_err-test_placing.ensures)
 
 pub returns : goal.returns
-returns c =
-    let if2 = c.if-of_conditions-ne0 in
-    let message_stage = c.message_stage-of_message in
-    let if1 = c.if-of_book-ne0 in
-    let conditions-stage = c.conditions_stage-of_conditions in
-    let book-stage = c.book_stage-of_book in
-    let args = c.args in
-    refused_placing args.service args.message.now args.book.now args.conditions.now args.room _ book-stage.ensures if1.false _ conditions-stage.ensures if2.false _ message_stage.ensures (c.if-of_message-ne0.false) _ (c.placing_stage.ensures)
+returns c = passed_all _ _ _ _ _ (book_good _ c.in_ok-check_book.ensures) _ c.are_conditions.ensures c.if-not-are_conditions.false _ c.in_ok-segments.ensures c.in_ok-test_placing.ensures

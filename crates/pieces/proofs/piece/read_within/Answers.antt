@@ -1,10 +1,7 @@
 use native.Mathlib.Omega.{arith}
 use mathlib.Core.Path.{sym, ◌∙◌}
-use Rattle.pieces.proofs.Passing.{along_begin, along_end, along_stop, along_gone_on, along_failed, along_ended}
+use Rattle.pieces.proofs.Passing.{along_end, along_stop, along_gone_on, along_failed, along_ended}
 use Rattle.pieces.proofs.piece.read_within.Goals as goal
-
-pub loop-at-init : goal.loop-at-init
-loop-at-init c = along_begin _ _ _ _
 
 pub returns-then-piece-stop : goal.returns-then-piece-stop
 returns-then-piece-stop c = along_gone_on _ _ _ _ c.requires _ _ _ c.loop-at.invariant _ c.next_stop-stop.ensures c.if-piece-stop.true _ c.go_on.ensures

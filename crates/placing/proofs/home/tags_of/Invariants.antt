@@ -1,5 +1,5 @@
 -- `home::tags_of` meets its contract. The invariant: of the lines so far the table has the tags.
-use Prim.Native.Nat.{ℕ, ◌-◌, ◌<◌}
+use Prim.Native.Nat.{ℕ, ◌<◌}
 use mathlib.Core.Path.{◌≡◌}
 use lib.ListN.{length, get_or}
 use Rattle.guide.specs.meaning.Guide.{guide_of}
@@ -7,7 +7,4 @@ use Rattle.placing.specs.method.Kept.{home_tag}
 use Rattle.placing.proofs.home.tags_of.Given as goal
 
 abbrev pub invariant-loop-line : goal.invariant-loop-line
-invariant-loop-line l = (length l.tags ≡ 257) × ((k : ℕ) → k < l.line → get_or l.tags k 0 ≡ home_tag (guide_of l.book) k)
-
-abbrev pub decreases-loop-line : goal.decreases-loop-line
-decreases-loop-line l = l.end - l.line
+invariant-loop-line l = record { length_is : length l.tags.items ≡ l.line; same : (k : ℕ) → k < l.line → get_or l.tags.items k 0 ≡ home_tag (guide_of l.book) k }

@@ -1,83 +1,41 @@
-use native.Mathlib.Omega.{arith}
-use mathlib.Core.Path.{sym, ◌∙◌}
-use lib.ListN.{length-set}
+use Prim.Native.Nat.{ℕ}
+use mathlib.Core.Path.{refl, sym, ap, ◌∙◌}
+use mathlib.Core.List.{List}
 use Rattle.guide.specs.meaning.Guide.{guide_of}
-use Rattle.guide.specs.meaning.Plan.{plan_in}
-use Rattle.placing.proofs.Finding.{home_line}
 use Rattle.reading.proofs.Starts.{found_within}
+use Rattle.placing.specs.method.Fitting.{home_at}
+use Rattle.placing.specs.method.Tables.{or_none}
+use Rattle.placing.proofs.OrNone.{some_number, no_number}
+use Rattle.placing.proofs.Finding.{home_line}
 use Rattle.placing.proofs.Passing.{test_begin, test_homeless, test_on, test_nothing, test_end}
 use Rattle.placing.proofs.passes.test_placing.Goals as goal
 
-pub tags_of-tags-requires : goal.tags_of-tags-requires
-tags_of-tags-requires c = c.tabled_end-end.ensures
+pub loop-passed-init : goal.loop-passed-init
+loop-passed-init c = test_begin c.args.service c.args.message.now c.args.book.now c.args.segments _ _ c.begin-walk.ensures c.first-cursor.ensures
 
-pub loop-place-init : goal.loop-place-init
-loop-place-init c =
-    let args = c.args in
-    test_begin args.service args.message.now args.book.now args.segments _ _ (c.begin-walk.ensures.1 (plan_in args.book.now)) c.first-cursor.ensures
+pub find_home-requires : goal.find_home-requires
+find_home-requires c = found_within c.args.service c.args.message.now c.loop-passed.cursor.at _ _ (sym c.in-Some.is ∙ c.next_segment.ensures)
 
-pub find_home-home-requires : goal.find_home-home-requires
-find_home-home-requires c =
-    let next = c.in-Segment in
-    let next_segment = c.next_segment in
-    let loop = c.loop-place in
-    let tags-of = c.tags_of-tags in
-    let args = c.args in
-    (found_within args.service args.message.now loop.cursor.at _ _ (sym next.is ∙ next_segment.ensures), tags-of.ensures)
+pub returns-in_default-find_home : goal.returns-in_default-find_home
+returns-in_default-find_home c =
+    let none = no_number _ (sym c.in_default-find_home.is ∙ c.find_home.ensures ∙ ap (λ (b : List ℕ). or_none (home_at c.args.service (guide_of b) c.args.message.now c.loop-passed.cursor.at)) c.of-lines.ensures) in
+    test_homeless c.args.service c.args.message.now c.args.book.now c.args.segments _ c.loop-passed.stop c.loop-passed.passed _ c.loop-passed.invariant _ _ 0 c.loop-passed-test.true (sym c.in-Some.is ∙ c.next_segment.ensures) (sym none) refl
 
-pub returns-then-home-eq0 : goal.returns-then-home-eq0
-returns-then-home-eq0 c =
-    let next = c.in-Segment in
-    let next_segment = c.next_segment in
-    let loop-test = c.loop-place-test in
-    let loop = c.loop-place in
-    let args = c.args in
-    test_homeless args.service args.message.now args.book.now args.segments loop.walk loop.stop loop.place _ loop.invariant _ _ _ loop-test.true (sym next.is ∙ next_segment.ensures) c.find_home-home.ensures c.if-home-eq0.true
+pub advance-requires : goal.advance-requires
+advance-requires c =
+    let home = some_number _ _ (sym c.in-Some-find_home.is ∙ c.find_home.ensures ∙ ap (λ (b : List ℕ). or_none (home_at c.args.service (guide_of b) c.args.message.now c.loop-passed.cursor.at)) c.of-lines.ensures) in
+    home_line (guide_of c.args.book.now) c.args.service c.args.message.now _ _ home.0 home.1
 
-pub advance-moved-requires : goal.advance-moved-requires
-advance-moved-requires c =
-    let loop = c.loop-place in
-    let args = c.args in
-    (loop.invariant.stands.ready, home_line (guide_of args.book.now) args.service args.message.now _ _ c.find_home-home.ensures c.if-home-eq0.false)
+pub loop-passed-preserved : goal.loop-passed-preserved
+loop-passed-preserved c =
+    let home = some_number _ _ (sym c.in-Some-find_home.is ∙ c.find_home.ensures ∙ ap (λ (b : List ℕ). or_none (home_at c.args.service (guide_of b) c.args.message.now c.loop-passed.cursor.at)) c.of-lines.ensures) in
+    test_on c.args.service c.args.message.now c.args.book.now c.args.segments _ c.loop-passed.stop c.loop-passed.passed _ c.loop-passed.invariant _ _ _ c.loop-passed-test.true (sym c.in-Some.is ∙ c.next_segment.ensures) home.0
+    _ _ _ home.1 c.advance.ensures c.is_alive.ensures c.first_stop-stop.ensures
 
-pub bounds-walk-depth : goal.bounds-walk-depth
-bounds-walk-depth c =
-    let advance = c.advance-moved in
-    let loop = c.loop-place in
-    omega (arith, advance.ensures.0.high, loop.invariant.stands.ready.eight)
-
-pub bounds-walk-last : goal.bounds-walk-last
-bounds-walk-last c =
-    let advance = c.advance-moved in
-    let loop = c.loop-place in
-    omega (arith, advance.ensures.0.deep, loop.invariant.stands.ready.eight, length-set loop.walk.levels advance.result.depth advance.result.level)
-
-pub loop-place-smaller : goal.loop-place-smaller
-loop-place-smaller c =
-    let loop-test = c.loop-place-test in
-    omega (arith, loop-test.true)
-
-pub loop-place-preserved : goal.loop-place-preserved
-loop-place-preserved c =
-    let advance = c.advance-moved in
-    let if1 = c.if-home-eq0 in
-    let find-home = c.find_home-home in
-    let next = c.in-Segment in
-    let next_segment = c.next_segment in
-    let loop-test = c.loop-place-test in
-    let loop = c.loop-place in
-    let args = c.args in
-    test_on args.service args.message.now args.book.now args.segments loop.walk loop.stop loop.place _ loop.invariant _ _ _ loop-test.true (sym next.is ∙ next_segment.ensures) find-home.ensures _ _ _ if1.false advance.ensures.1 c.is_alive.ensures c.first_stop-stop.ensures
-
-pub returns-in-Nothing : goal.returns-in-Nothing
-returns-in-Nothing c =
-    let next_segment = c.next_segment in
-    let loop = c.loop-place in
-    let args = c.args in
-    c.outcome_of.ensures ∙ test_nothing args.service args.message.now args.book.now args.segments loop.walk loop.stop loop.place _ loop.invariant (sym c.in-Nothing.is ∙ next_segment.ensures)
+pub returns-in_default : goal.returns-in_default
+returns-in_default c =
+    c.outcome_of.ensures
+    ∙ test_nothing c.args.service c.args.message.now c.args.book.now c.args.segments _ c.loop-passed.stop c.loop-passed.passed _ c.loop-passed.invariant (sym c.in_default.is ∙ c.next_segment.ensures)
 
 pub returns : goal.returns
-returns c =
-    let loop = c.loop-place in
-    let args = c.args in
-    c.outcome_of-2.ensures ∙ test_end args.service args.message.now args.book.now args.segments loop.walk loop.stop loop.place _ loop.invariant c.loop-place-test.false
+returns c = c.outcome_of-2.ensures ∙ test_end c.args.service c.args.message.now c.args.book.now c.args.segments _ c.loop-passed.stop c.loop-passed.passed _ c.loop-passed.invariant c.loop-passed-test.false

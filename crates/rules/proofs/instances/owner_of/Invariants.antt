@@ -1,13 +1,7 @@
--- `instances::owner_of` meets its contract. The invariant: from the line that has been come to, the climb ends where it ends from
--- the first. Assumes nothing.
-use Prim.Native.Nat.{◌≤◌}
-use mathlib.Core.Path.{◌≡◌}
-use Rattle.guide.specs.meaning.Plan.{plan_in, deep}
-use Rattle.guide.specs.meaning.Tree.{climb, owner}
+-- `instances::owner_of` meets its contract. The invariant: no line from the one that has been come to up to before the line lies higher.
+use Rattle.std.proofs.Common.{ℕ, ◌<◌, ◌≤◌}
+use Rattle.guide.specs.meaning.Guide.{guide_of}
 use Rattle.rules.proofs.instances.owner_of.Given as goal
 
-abbrev pub invariant-loop-at : goal.invariant-loop-at
-invariant-loop-at l = (climb (plan_in l.book) (deep (plan_in l.book) l.line) l.at ≡ owner (plan_in l.book) l.line) × (l.at ≤ l.line)
-
-abbrev pub decreases-loop-at : goal.decreases-loop-at
-decreases-loop-at l = l.at
+abbrev pub invariant-loop-before : goal.invariant-loop-before
+invariant-loop-before l = (k : ℕ) → l.before ≤ k → k < l.line → l.depth ≤ (guide_of l.book).depth k

@@ -1,5 +1,0 @@
--- `layout::code_byte_at` meets its contract: it reads where the record begins, plus the offset.
-use Rattle.guide.proofs.layout.code_byte_at.Goals as goal
-
-pub returns : goal.returns
-returns c = rw (← c.code_at.ensures.0) c.byte_at.ensures

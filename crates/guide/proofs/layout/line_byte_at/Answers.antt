@@ -1,5 +1,0 @@
--- `layout::line_byte_at` meets its contract: it reads where the record begins, plus the offset.
-use Rattle.guide.proofs.layout.line_byte_at.Goals as goal
-
-pub returns : goal.returns
-returns c = rw (← c.line_at.ensures.0) c.byte_at.ensures

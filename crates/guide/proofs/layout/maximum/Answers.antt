@@ -1,7 +1,0 @@
--- `layout::maximum` meets its contract: the guide's number of that name stands at that offset.
-use Rattle.guide.specs.meaning.Guide.{guide_of}
-use Rattle.guide.proofs.layout.maximum.Goals as goal
-
-pub returns : goal.returns
-unfolding guide_of
-returns c = rw (← c.line_at.ensures.0) c.u32_at.ensures

@@ -1,7 +1,0 @@
--- `layout::tag_byte` meets its contract: the guide's number of that name stands at that offset.
-use Rattle.guide.specs.meaning.Guide.{guide_of}
-use Rattle.guide.proofs.layout.tag_byte.Goals as goal
-
-pub returns : goal.returns
-unfolding guide_of
-returns c = c.line_byte_at.ensures

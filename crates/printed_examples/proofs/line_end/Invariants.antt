@@ -1,9 +1,0 @@
--- the place lies between `from` and the text's end, and each turn moves it on
-use Rattle.std.proofs.Common.{length, ◌-◌, ◌≤◌}
-use Rattle.printed_examples.proofs.line_end.Given as goal
-
-abbrev pub invariant-loop-at : goal.invariant-loop-at
-invariant-loop-at l = (l.from ≤ l.at) × (l.at ≤ length l.text)
-
-abbrev pub decreases-loop-at : goal.decreases-loop-at
-decreases-loop-at l = length l.text - l.at

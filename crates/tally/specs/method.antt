@@ -1,0 +1,2 @@
+-- How the code names its refusals.
+pub mod Refusal
