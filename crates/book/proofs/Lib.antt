@@ -1,6 +1,7 @@
 -- Laws of guide books: first of rules and tests, then of books.
 pub mod Rules
-pub mod Ranges
+pub mod Asked
+pub mod Digits
 pub mod Tables
 pub mod Passing
 pub mod Checking

@@ -117,6 +117,10 @@ fails_run r h = refuted (run r) (λ e. h (run_holds r e))
 pub when_false : (a b : Bool) → a ≡ false → true ≡ (not a || b)
 when_false a b e = simp e
 
--- a test of several rules, one after the other: one that holds leaves the others
+-- a test of several rules, one after the other: one that holds leaves the others, and one that does not decides
 pub goes_on : (a b r : Bool) → a ≡ true → r ≡ b → r ≡ (a && b)
 goes_on a b r e h = simp e h
+
+pub stops : (a b r : Bool) → r ≡ a → r ≡ false → r ≡ (a && b)
+stops true b r same e = absurd (true≢false (sym same ∙ e))
+stops false b r same e = same

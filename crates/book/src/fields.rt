@@ -5,7 +5,7 @@ ghost use Rattle.guide.specs.meaning.Guide.{guide_of};
 ghost use Rattle.book.specs.method.Each.{fields_rule};
 ghost use Rattle.book.specs.meaning.GoodBook.{field_rule};
 
-use crate::tests;
+use crate::ranges::is_range;
 use guide::layout;
 use guide::words::{Form, Presence};
 
@@ -21,7 +21,7 @@ pub fn field_is_good(book: &[u8], field: u32) -> bool
         && Form::try_from(layout::form(book, field)).is_ok()
         && 1 <= layout::longest(book, field)
         && layout::field_end(book, field) == 0
-        && tests::is_range(first, count, layout::codes(book))
+        && is_range(first, count, layout::codes(book))
 }
 
 pub fn fields_are_good(book: &[u8]) -> bool

@@ -2,30 +2,18 @@
 // line of its tag before it must not be marked. The lines before are told apart by then, so together they have no more codes than
 // the book: each line is paid with the code count, however many lines share its tag.
 ghost use Rattle.std.specs.Prelude.{◌≡◌, ◌≤◌, MatchOption, true};
-ghost use Rattle.book.specs.meaning.Rule.{every};
 ghost use Rattle.book.specs.method.Run.{run};
 ghost use Rattle.guide.specs.meaning.Guide.{guide_of};
-ghost use Rattle.book.specs.meaning.GoodBook.{same_tag_rule, same_place_rule, not_among_rule, pair_rule};
-ghost use Rattle.book.specs.method.Each.{CodesWithin, Within, PassedTo, home_rule, homes_rule};
-ghost use Rattle.book.specs.method.Tables.{Numbered, Marked};
+ghost use Rattle.book.specs.meaning.GoodBook.{same_tag_rule, same_place_rule, pair_rule};
+ghost use Rattle.book.specs.method.Each.{CodesWithin, Within, PassedTo, no_code_rule, home_rule, homes_rule};
+ghost use Rattle.book.specs.method.Tables.{Marked};
 
-use crate::numbering::{MOST_CODES, Marks, Numbers};
-use crate::{numbering, structure};
+use crate::numbering::{Codes, MOST_CODES};
+use crate::structure;
 use guide::layout;
 
-// Which numbers the line's codes have.
-fn marks_of(book: &[u8], numbers: &Numbers, line: u32) -> Marks
-    requires { (Numbered (guide_of book.now) numbers.now) × (CodesWithin (guide_of book.now) line) }
-    ensures { Marked (guide_of book.now) numbers.now result line }
-{
-    let first = layout::first_code(book, line);
-    let count = layout::code_count(book, line);
-    let mut marks = [false; MOST_CODES];
-    for code in first..first + count {
-        marks[numbers[code as usize] as usize] = true;
-    }
-    marks
-}
+// For each number whether it is marked.
+type Marks = [bool; MOST_CODES];
 
 #[tactic(auto, unfolding(crate::specs::meaning::GoodBook::same_tag_rule))]
 fn have_same_tag(book: &[u8], line: u32, other: u32) -> bool
@@ -46,24 +34,62 @@ fn have_same_place(book: &[u8], line: u32, other: u32) -> bool
         && layout::selector_component(book, line) == layout::selector_component(book, other)
 }
 
-// None of the line's codes is the other's, whose codes are marked.
-fn has_no_code_of(book: &[u8], numbers: &Numbers, marks: &Marks, line: u32, other: u32) -> bool
-    requires { (Marked (guide_of book.now) numbers.now marks.now other) × (CodesWithin (guide_of book.now) line) }
-    ensures { result ≡ run (every ((guide_of book.now).first_code line) ((guide_of book.now).code_count line) (not_among_rule (guide_of book.now) other)) }
+// Which numbers the line's codes have.
+fn marks_of(codes: &Codes, line: u32) -> Marks
+    requires { CodesWithin (guide_of codes.now.book.now) line }
+    ensures { Marked (guide_of codes.now.book.now) codes.now.numbers result line }
 {
-    let first = layout::first_code(book, line);
-    let count = layout::code_count(book, line);
-    (first..first + count).all(|code| !marks[numbers[code as usize] as usize])
+    let first = layout::first_code(codes.book, line);
+    let count = layout::code_count(codes.book, line);
+    let mut marks = [false; MOST_CODES];
+    for code in first..first + count {
+        marks[codes.number_of(code)] = true;
+    }
+    marks
 }
 
-// The codes are looked at only where the tags are the same.
-#[tactic(auto, unfolding(crate::specs::meaning::GoodBook::pair_rule, crate::specs::meaning::GoodBook::told_apart_rule))]
-fn is_pair_good(book: &[u8], numbers: &Numbers, marks: &Marks, line: u32, other: u32) -> bool
-    requires { (Marked (guide_of book.now) numbers.now marks.now other) × (CodesWithin (guide_of book.now) line) }
-    ensures { result ≡ run (pair_rule (guide_of book.now) line other) }
-{
-    !have_same_tag(book, line, other)
-        || (have_same_place(book, line, other) && has_no_code_of(book, numbers, marks, line, other))
+// A line with its codes marked.
+#[derive(Drop)]
+struct MarkedLine<'a> {
+    codes: &'a Codes<'a>,
+    line: u32,
+    marks: Marks,
+    ghost marked: { Marked (guide_of codes.now.book.now) codes.now.numbers marks line },
+}
+
+impl<'a> MarkedLine<'a> {
+    fn of(codes: &'a Codes<'a>, line: u32) -> MarkedLine<'a>
+        requires { CodesWithin (guide_of codes.now.book.now) line }
+        ensures book { result.codes.now ≡ codes.now }
+        ensures line { result.line ≡ line }
+    {
+        MarkedLine {
+            codes,
+            line,
+            marks: marks_of(codes, line),
+        }
+    }
+
+    // None of the other line's codes is marked.
+    fn has_no_code_of(&self, other: u32) -> bool
+        requires { CodesWithin (guide_of self.now.codes.now.book.now) other }
+        ensures { result ≡ run (no_code_rule (guide_of self.now.codes.now.book.now) other self.now.line) }
+    {
+        let first = layout::first_code(self.codes.book, other);
+        let count = layout::code_count(self.codes.book, other);
+        (first..first + count).all(|code| !self.marks[self.codes.number_of(code)])
+    }
+
+    // The codes are looked at only where the tags are the same.
+    #[tactic(auto, unfolding(crate::specs::meaning::GoodBook::pair_rule, crate::specs::meaning::GoodBook::told_apart_rule))]
+    fn suits(&self, earlier: u32) -> bool
+        requires { CodesWithin (guide_of self.now.codes.now.book.now) earlier }
+        ensures { result ≡ run (pair_rule (guide_of self.now.codes.now.book.now) earlier self.now.line) }
+    {
+        !have_same_tag(self.codes.book, earlier, self.line)
+            || (have_same_place(self.codes.book, earlier, self.line)
+                && self.has_no_code_of(earlier))
+    }
 }
 
 // The first line before this one that has its tag. Few lines share a tag, and no others need marks.
@@ -74,21 +100,23 @@ fn first_of_its_tag(book: &[u8], line: u32) -> Option<u32>
     (1..line).find(|earlier| have_same_tag(book, *earlier, line))
 }
 
-fn has_one_home(book: &[u8], numbers: &Numbers, line: u32) -> bool
-    requires { (Numbered (guide_of book.now) numbers.now) × (Within (guide_of book.now)) × (1 ≤ line) × (line ≤ (guide_of book.now).lines) }
-    ensures { result ≡ run (home_rule (guide_of book.now) line) }
+fn has_one_home(codes: &Codes, line: u32) -> bool
+    requires within { Within (guide_of codes.now.book.now) }
+    requires some { 1 ≤ line }
+    requires last { line ≤ (guide_of codes.now.book.now).lines }
+    ensures { result ≡ run (home_rule (guide_of codes.now.book.now) line) }
 {
-    let Some(first) = first_of_its_tag(book, line) else {
+    let Some(first) = first_of_its_tag(codes.book, line) else {
         return true;
     };
-    let marks = marks_of(book, numbers, line);
-    (first..line).all(|earlier| is_pair_good(book, numbers, &marks, earlier, line))
+    let marked = MarkedLine::of(codes, line);
+    (first..line).all(|earlier| marked.suits(earlier))
 }
 
 pub fn homes_are_good(book: &[u8]) -> bool
     requires { Within (guide_of book.now) }
     ensures { result ≡ run (homes_rule (guide_of book.now)) }
 {
-    let numbers = numbering::numbers_of(book);
-    (1..layout::lines(book) + 1).all(|line| has_one_home(book, &numbers, line))
+    let codes = Codes::of(book);
+    (1..layout::lines(book) + 1).all(|line| has_one_home(&codes, line))
 }

@@ -9,8 +9,8 @@ mod homes;
 mod identifiers;
 mod lines;
 mod numbering;
+mod ranges;
 mod rows;
 mod structure;
-mod tests;
 
 pub use check::{BadBook, check_book};

@@ -6,16 +6,16 @@ ghost use Rattle.guide.specs.meaning.Guide.{guide_of};
 ghost use Rattle.book.specs.meaning.GoodBook.{kind_rule, depth_rule, tag_byte_rule, tag_rule, required_rule, selector_rule, code_range_rule, maximum_rule, field_range_rule, group_rule};
 ghost use Rattle.book.specs.method.Each.{lines_rule, line_rule};
 
-use crate::tests;
+use crate::ranges::is_range;
 use guide::layout;
 use guide::words::{LineKind, NoWord};
 
 #[tactic(auto, unfolding(crate::specs::meaning::GoodBook::tag_byte_rule))]
-fn tag_byte_is_good(book: &[u8], line: u32, byte: u32) -> bool
+fn tag_byte_is_good(book: &[u8], line: u32, byte: u8) -> bool
     ensures { result ≡ run (tag_byte_rule (guide_of book.now) line byte) }
 {
     match LineKind::try_from(layout::kind(book, line)) {
-        Ok(LineKind::Segment) => tests::is_capital(byte) || tests::is_digit(byte),
+        Ok(LineKind::Segment) => byte.is_ascii_uppercase() || byte.is_ascii_digit(),
         Ok(LineKind::Group) => byte == 0,
         Err(NoWord) => true,
     }
@@ -25,9 +25,7 @@ fn tag_byte_is_good(book: &[u8], line: u32, byte: u32) -> bool
 fn tag_is_good(book: &[u8], line: u32) -> bool
     ensures { result ≡ run (tag_rule (guide_of book.now) line) }
 {
-    tag_byte_is_good(book, line, layout::tag_byte(book, line, 0))
-        && tag_byte_is_good(book, line, layout::tag_byte(book, line, 1))
-        && tag_byte_is_good(book, line, layout::tag_byte(book, line, 2))
+    (0..3).all(|byte| tag_byte_is_good(book, line, layout::tag_byte(book, line, byte) as u8))
 }
 
 #[tactic(auto, unfolding(crate::specs::meaning::GoodBook::kind_rule, crate::specs::meaning::GoodBook::depth_rule))]
@@ -58,18 +56,27 @@ fn codes_are_good(book: &[u8], line: u32) -> bool
     let count = layout::code_count(book, line);
     layout::required(book, line) <= 1
         && selector_is_good(book, line)
-        && tests::is_range(first, count, layout::codes(book))
+        && is_range(first, count, layout::codes(book))
 }
 
-#[tactic(auto, unfolding(crate::specs::meaning::GoodBook::maximum_rule, crate::specs::meaning::GoodBook::field_range_rule, crate::specs::meaning::GoodBook::group_rule))]
+// A selector goes with codes.
+#[tactic(auto, unfolding(crate::specs::meaning::GoodBook::group_rule))]
+fn group_is_plain(book: &[u8], line: u32) -> bool
+    ensures { result ≡ run (group_rule (guide_of book.now) line) }
+{
+    !layout::is_group(book, line)
+        || (layout::code_count(book, line) == 0 && layout::field_count(book, line) == 0)
+}
+
+#[tactic(auto, unfolding(crate::specs::meaning::GoodBook::maximum_rule, crate::specs::meaning::GoodBook::field_range_rule))]
 fn fields_are_good(book: &[u8], line: u32) -> bool
     ensures { result ≡ run (maximum_rule (guide_of book.now) line and field_range_rule (guide_of book.now) line and group_rule (guide_of book.now) line) }
 {
     let first = layout::first_field(book, line);
     let count = layout::field_count(book, line);
     (1..=999_999).contains(&layout::maximum(book, line))
-        && tests::is_range(first, count, layout::fields(book))
-        && (!layout::is_group(book, line) || (layout::code_count(book, line) == 0 && count == 0))
+        && is_range(first, count, layout::fields(book))
+        && group_is_plain(book, line)
 }
 
 #[tactic(auto, unfolding(crate::specs::method::Each::line_rule))]

@@ -1,6 +1,6 @@
 // The codes numbered by value: two have the same number exactly when they are the same eight bytes. This is paid once, with the
 // square of the code count at most; whoever compares codes then compares numbers that are small enough for the index of a table.
-ghost use Rattle.std.specs.Prelude.{◌≡◌, ℕ, ◌+◌, ◌*◌, ◌<◌, ◌^◌, get_or};
+ghost use Rattle.std.specs.Prelude.{◌≡◌, ℕ, ◌<◌, ◌^◌, get_or};
 ghost use Rattle.guide.specs.meaning.Guide.{guide_of};
 ghost use Rattle.book.specs.method.Tables.{whole_code, FirstOf, Numbered};
 
@@ -9,10 +9,8 @@ use guide::layout;
 // More codes than a book of 65,535 bytes has room for.
 pub const MOST_CODES: usize = 8192;
 
-// For each code its number, and for each number whether it is marked.
-pub type Numbers = [u32; MOST_CODES];
-
-pub type Marks = [bool; MOST_CODES];
+// For each code its number.
+type Numbers = [u32; MOST_CODES];
 
 fn whole_code(book: &[u8], code: u32) -> u64
     ensures { result ≡ whole_code (guide_of book.now) code }
@@ -33,7 +31,7 @@ fn first_of_value(values: &[u64; MOST_CODES], place: usize) -> usize
 }
 
 // A code's number is that of the first code with its value.
-pub fn numbers_of(book: &[u8]) -> Numbers
+fn numbers_of(book: &[u8]) -> Numbers
     requires { (guide_of book.now).codes < 2 ^ 13 }
     ensures { Numbered (guide_of book.now) result }
 {
@@ -44,4 +42,34 @@ pub fn numbers_of(book: &[u8]) -> Numbers
         numbers[code as usize] = first_of_value(&values, code as usize) as u32;
     }
     numbers
+}
+
+// A book with its codes numbered.
+#[derive(Drop)]
+pub struct Codes<'a> {
+    pub book: &'a [u8],
+    pub numbers: Numbers,
+    ghost numbered: { Numbered (guide_of book.now) numbers },
+}
+
+impl<'a> Codes<'a> {
+    pub fn of(book: &'a [u8]) -> Codes<'a>
+        requires { (guide_of book.now).codes < 2 ^ 13 }
+        ensures { result.book.now ≡ book.now }
+    {
+        Codes {
+            book,
+            numbers: numbers_of(book),
+        }
+    }
+
+    // The number of a code, which is a place in a table.
+    #[tactic(auto, using(crate::proofs::Tables::in_table))]
+    pub fn number_of(&self, code: u32) -> usize
+        requires { code < (guide_of self.now.book.now).codes }
+        ensures value { result ≡ get_or self.now.numbers code 0 }
+        ensures small { result < 2 ^ 13 }
+    {
+        self.numbers[code as usize] as usize
+    }
 }

@@ -6,19 +6,19 @@ ghost use Rattle.book.specs.meaning.GoodBook.{literal_rule, next_literal_rule, e
 ghost use Rattle.book.specs.method.Each.{Small, rows_rule, row_rule};
 
 use guide::layout;
-use guide::words::{Joint, Mode, NoWord};
+use guide::words::{Joint, Mode, NEGATED, NoWord};
 
 fn is_literal(book: &[u8], byte: u32) -> bool
     ensures { result ≡ run (literal_rule (guide_of book.now) byte) }
 {
-    (1..=layout::conditions(book)).contains(&(byte % 128))
+    (1..=layout::conditions(book)).contains(&(byte % NEGATED))
 }
 
 #[tactic(auto, unfolding(crate::specs::meaning::GoodBook::next_literal_rule))]
 fn is_next_literal(book: &[u8], before: u32, byte: u32) -> bool
     ensures { result ≡ run (next_literal_rule (guide_of book.now) before byte) }
 {
-    byte == 0 || (is_literal(book, byte) && before % 128 < byte % 128)
+    byte == 0 || (is_literal(book, byte) && before % NEGATED < byte % NEGATED)
 }
 
 #[tactic(auto, unfolding(crate::specs::meaning::GoodBook::expression_rule))]
@@ -40,6 +40,7 @@ fn expression_is_good(book: &[u8], row: u32) -> bool
 fn has_no_expression(book: &[u8], row: u32) -> bool
     ensures { result ≡ run (no_expression_rule (guide_of book.now) row) }
 {
+    // Stays: no record is asked so often, and with `(0..3).all(..)` here and below the book check took a tenth longer.
     layout::joint(book, row) == 0
         && layout::condition(book, row, 0) == 0
         && layout::condition(book, row, 1) == 0

@@ -9,8 +9,7 @@ use lib.ListN.{length, get_or, take, drop}
 use borrow.Author.Tests.{eq-eqb, ne_eqb}
 use Rattle.std.specs.Prelude.{count_by, nat_eq}
 use Rattle.std.proofs.lemmas.List.Sums.{sum_by-cons}
-use Rattle.std.proofs.Common.{length-drop}
-use Rattle.std.proofs.Math.Seq.{take-length}
+use Rattle.std.proofs.lemmas.List.{take_rest}
 use Rattle.std.specs.List.{prefix_len}
 use Rattle.reading.specs.declared.service.Service.{Service}
 use Rattle.reading.specs.meaning.Digit.{is_digit}
@@ -41,12 +40,8 @@ drop_digits (b ∷ bs) = go (is_digit b) (drop_digits bs)
     go true h = let m : 1 + n ≡ suc n = omega arith in ap (λ (k : ℕ). drop k (b ∷ bs)) m ∙ h
     go false h = refl
 
--- the bytes from there on, as a slice names them
-pub rest_from : (bs : List ℕ) (n : ℕ) → take (length bs - n) (drop n bs) ≡ drop n bs
-rest_from bs n = ap (λ (k : ℕ). take k (drop n bs)) (sym (length-drop n bs)) ∙ take-length (drop n bs)
-
 pub digits_passed : (bs : List ℕ) (n : ℕ) → n ≡ prefix_len is_digit bs → take (length bs - n) (drop n bs) ≡ after_digits bs
-digits_passed bs n e = rest_from bs n ∙ ap (λ (k : ℕ). drop k bs) e ∙ drop_digits bs
+digits_passed bs n e = take_rest bs n ∙ ap (λ (k : ℕ). drop k bs) e ∙ drop_digits bs
 
 pub none_left : (bs : List ℕ) → nat_eq (length bs) 0 ≡ is_none bs
 unfolding is_none
@@ -64,7 +59,7 @@ module _ (s : Service) where
   pub ends_mark : (bs : List ℕ) (r : Bool) → 1 ≤ length bs → get_or bs 0 0 ≡ s.decimal → r ≡ are_digits (take (length bs - 1) (drop 1 bs)) → r ≡ ends_number s bs
   unfolding ends_number
   ends_mark [] r h e k = absurd (omega arith)
-  ends_mark (b ∷ bs) r h e k = k ∙ ap are_digits (rest_from (b ∷ bs) 1) ∙ sym (ap (λ (t : Bool). t && are_digits bs) (eq-eqb b s.decimal e))
+  ends_mark (b ∷ bs) r h e k = k ∙ ap are_digits (take_rest (b ∷ bs) 1) ∙ sym (ap (λ (t : Bool). t && are_digits bs) (eq-eqb b s.decimal e))
 
   pub ends_other : (bs : List ℕ) → 1 ≤ length bs → (get_or bs 0 0 ≡ s.decimal → ⊥) → eqb (get_or bs 0 0) s.decimal ≡ ends_number s bs
   unfolding ends_number
@@ -81,7 +76,7 @@ sign_none (b ∷ bs) h = absurd (omega arith)
 pub sign_minus : (bs : List ℕ) → 1 ≤ length bs → get_or bs 0 0 ≡ minus → take (length bs - 1) (drop 1 bs) ≡ without_sign bs
 unfolding without_sign
 sign_minus [] h e = absurd (omega arith)
-sign_minus (b ∷ bs) h e = rest_from (b ∷ bs) 1 ∙ sym (ap (λ (t : Bool). cond t bs (b ∷ bs)) (eq-eqb b minus e))
+sign_minus (b ∷ bs) h e = take_rest (b ∷ bs) 1 ∙ sym (ap (λ (t : Bool). cond t bs (b ∷ bs)) (eq-eqb b minus e))
 
 pub sign_other : (bs : List ℕ) → 1 ≤ length bs → (get_or bs 0 0 ≡ minus → ⊥) → bs ≡ without_sign bs
 unfolding without_sign

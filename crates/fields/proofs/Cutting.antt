@@ -1,14 +1,14 @@
 -- The steps of the functions that read a segment's bytes: each says what the byte at hand makes of the cut of all that is left.
 use Prim.Native.Nat.{ℕ, suc, ◌+◌, ◌-◌, ◌≤◌, ◌<◌}
 use native.Mathlib.Omega.{arith}
-use native.Mathlib.Decide.{dec_lt}
 use native.Mathlib.Numerals.{add-one}
 use mathlib.Core.Path.{◌≡◌, refl, sym, ap, ap₂, ◌∙◌}
 use mathlib.Core.List.{List, [], ◌∷◌, ◌++◌, append_assoc, append-nil}
+use Rattle.std.proofs.lemmas.List.{take-append-drop, length-append}
 use mathlib.Core.Bool.{Bool, true, false, cond, not, true≢false, false≢true}
-use mathlib.Core.Logic.{dite, ⊎_elim}
+use mathlib.Core.Logic.{⊎_elim}
 use lib.ListN.{length, get_or, take, drop, drop_of_length-le, length-drop}
-use lib.Seq.{drop-cons, take-suc, get_or-drop, drop-drop}
+use lib.Seq.{drop-cons, take-suc, take_all, drop-drop}
 use Rattle.reading.specs.meaning.Service.{must_release}
 use Rattle.reading.specs.method.Machine.{kind_of}
 use Rattle.reading.specs.declared.service.Service.{Service}
@@ -16,7 +16,8 @@ use Rattle.reading.specs.declared.bytes.Kind.{Kind}
 use Rattle.reading.specs.declared.bytes.Kind.TheVariants.{Component, Element, Terminator, Release, Plain, Other}
 use Rattle.reading.proofs.Seeking.{unmarked}
 use Rattle.fields.specs.method.Parts.{Raw, Cut, pieces, add_byte, add_component, add_element, cut_by, cut, components_in, further_in, has_bytes, any_bytes}
-use Rattle.fields.specs.method.Kept.{is_release, is_component_mark, is_element_mark, is_mark, opens_component, opens_element, elements_in, raw_in, behind_component, behind_element, further_behind, Reads}
+use Rattle.std.proofs.lemmas.List.{take_rest}
+use Rattle.fields.specs.method.Kept.{is_release, is_mark, same_kind, opens, elements_in, behind_component, behind_element, further_behind, Reads, Ends}
 
 -- ---- one byte
 
@@ -57,8 +58,8 @@ split (pieces x xs es) = refl
 
 by_mark : (kind : Kind) (b : ℕ) (rest : Bool → Cut) → is_mark kind ≡ true
     → cut_by kind b rest
-    ≡ pieces [] (cond (is_component_mark kind) (components_in (rest false)) [])
-    (cond (is_component_mark kind) (further_in (rest false)) (cond (is_element_mark kind) (elements_in (rest false)) []))
+    ≡ pieces [] (cond (same_kind kind Component) (components_in (rest false)) [])
+    (cond (same_kind kind Component) (further_in (rest false)) (cond (same_kind kind Element) (elements_in (rest false)) []))
 by_mark Component b rest h = split_component (rest false)
 by_mark Element b rest h = split_element (rest false)
 by_mark Terminator b rest h = refl
@@ -68,32 +69,35 @@ by_mark Other b rest h = absurd (false≢true h)
 
 -- ---- what a mark opens
 
+module _ (s : Service) (mark : Kind) where
+  opens_here : (bs : List ℕ) (at : ℕ) (kind : Kind) → at < length bs → kind ≡ kind_of s (get_or bs at 0) → same_kind kind mark ≡ opens mark s (drop at bs)
+  unfolding opens
+  opens_here bs at kind h e = ap (λ (k : Kind). same_kind k mark) e ∙ sym (ap (opens mark s) (drop-cons bs at 0 h))
+
+  opens_out : (bs : List ℕ) (at : ℕ) → length bs ≤ at → false ≡ opens mark s (drop at bs)
+  unfolding opens
+  opens_out bs at h = sym (ap (opens mark s) (drop_of_length-le bs h))
+
+  pub opened_out : (bs : List ℕ) → length bs < 1 → opens mark s bs ≡ false
+  opened_out bs h = sym (opens_out bs 0 (omega arith))
+
+  pub opened_here : (bs : List ℕ) (kind : Kind) (r : Bool) → 1 ≤ length bs → kind ≡ kind_of s (get_or bs 0 0) → same_kind kind mark ≡ r → opens mark s bs ≡ r
+  opened_here bs kind r h e i = sym (opens_here bs 0 kind (omega arith) e) ∙ i
+
+  pub opened_next : (bs : List ℕ) (kind : Kind) → 1 ≤ length bs → kind ≡ kind_of s (get_or bs 0 0) → same_kind kind mark ≡ true
+      → (opens mark s bs ≡ true) × (take (length bs - 1) (drop 1 bs) ≡ drop 1 bs)
+  opened_next bs kind h e i = (opened_here bs kind true h e i, take_rest bs 1)
+
+  -- a mark stands within the bytes
+  opens_inside : (bs : List ℕ) → opens mark s bs ≡ true → 0 < length bs
+  unfolding opens
+  opens_inside [] h = absurd (false≢true h)
+  opens_inside (b ∷ bs) h = omega arith
+
+  pub next_shorter : (bs next : List ℕ) → (opens mark s bs ≡ true) × (next ≡ drop 1 bs) → length next + 1 ≡ length bs
+  next_shorter bs next o = let h = opens_inside bs o.0 in let n : length next ≡ length bs - 1 = ap length o.1 ∙ length-drop 1 bs in omega arith
+
 module _ (s : Service) (bs : List ℕ) where
-  pub component_here : (at : ℕ) (r : Bool) (kind : Kind) → at < length bs → kind ≡ kind_of s (get_or bs at 0) → r ≡ is_component_mark kind → r ≡ opens_component s (drop at bs)
-  unfolding opens_component
-  component_here at r kind h e i = i ∙ ap is_component_mark e ∙ sym (ap (opens_component s) (drop-cons bs at 0 h))
-
-  pub component_out : (at : ℕ) → length bs ≤ at → false ≡ opens_component s (drop at bs)
-  unfolding opens_component
-  component_out at h = sym (ap (opens_component s) (drop_of_length-le bs h))
-
-  pub element_here : (at : ℕ) (r : Bool) (kind : Kind) → at < length bs → kind ≡ kind_of s (get_or bs at 0) → r ≡ is_element_mark kind → r ≡ opens_element s (drop at bs)
-  unfolding opens_element
-  element_here at r kind h e i = i ∙ ap is_element_mark e ∙ sym (ap (opens_element s) (drop-cons bs at 0 h))
-
-  pub element_out : (at : ℕ) → length bs ≤ at → false ≡ opens_element s (drop at bs)
-  unfolding opens_element
-  element_out at h = sym (ap (opens_element s) (drop_of_length-le bs h))
-
-  -- a mark stands within the message
-  pub component_inside : (at : ℕ) → opens_component s (drop at bs) ≡ true → at < length bs
-  component_inside at h =
-      dite (dec_lt at (length bs)) (λ i. i) (λ n. absurd (false≢true (component_out at (let k : length bs ≤ at = omega arith in k) ∙ h)))
-
-  pub element_inside : (at : ℕ) → opens_element s (drop at bs) ≡ true → at < length bs
-  element_inside at h =
-      dite (dec_lt at (length bs)) (λ i. i) (λ n. absurd (false≢true (element_out at (let k : length bs ≤ at = omega arith in k) ∙ h)))
-
   -- ---- the end of a component
 
   one_on : (at : ℕ) → drop 1 (drop at bs) ≡ drop (at + 1) bs
@@ -103,15 +107,15 @@ module _ (s : Service) (bs : List ℕ) where
       → cut s false (drop at bs) ≡ pieces [] (behind_component s (drop at bs)) (further_behind s (drop at bs))
   at_mark at kind h e m =
       cut_free s bs at kind h e ∙ by_mark kind (get_or bs at 0) (λ r. cut s r (drop (at + 1) bs)) m
-      ∙ ap (λ (l : List ℕ). pieces [] (cond (is_component_mark kind) (components_in (cut s false l)) []) (cond (is_component_mark kind) (further_in (cut s false l)) (cond (is_element_mark kind) (elements_in (cut s false l)) []))) (sym (one_on at))
+      ∙ ap (λ (l : List ℕ). pieces [] (cond (same_kind kind Component) (components_in (cut s false l)) []) (cond (same_kind kind Component) (further_in (cut s false l)) (cond (same_kind kind Element) (elements_in (cut s false l)) []))) (sym (one_on at))
       ∙ ap₂ (λ (p q : Bool). pieces [] (cond p (components_in (cut s false (drop 1 (drop at bs)))) []) (cond p (further_in (cut s false (drop 1 (drop at bs)))) (cond q (elements_in (cut s false (drop 1 (drop at bs)))) [])))
-      (component_here at (is_component_mark kind) kind h e refl) (element_here at (is_element_mark kind) kind h e refl)
+      (opens_here s Component bs at kind h e) (opens_here s Element bs at kind h e)
 
   at_end : (at : ℕ) (r : Bool) → length bs ≤ at → cut s r (drop at bs) ≡ pieces [] (behind_component s (drop at bs)) (further_behind s (drop at bs))
   at_end at r h =
       cut_out s bs at r h
       ∙ ap₂ (λ (p q : Bool). pieces [] (cond p (components_in (cut s false (drop 1 (drop at bs)))) []) (cond p (further_in (cut s false (drop 1 (drop at bs)))) (cond q (elements_in (cut s false (drop 1 (drop at bs)))) [])))
-      (component_out at h) (element_out at h)
+      (opens_out s Component bs at h) (opens_out s Element bs at h)
 
 -- ---- a component's bytes
 
@@ -124,90 +128,87 @@ prepend_none (pieces x xs es) = refl
 prepend_byte : (front : Raw) (b : ℕ) (x : Cut) → prepend front (add_byte b x) ≡ prepend (front ++ (b ∷ [])) x
 prepend_byte front b (pieces x xs es) = ap (λ (y : Raw). pieces y xs es) (sym (append_assoc front (b ∷ []) x))
 
-module _ (bs : List ℕ) where
-  raw_none : (from : ℕ) → raw_in bs from from ≡ []
-  raw_none from = let z : from - from ≡ 0 = omega arith in ap (λ (n : ℕ). take n (drop from bs)) z
-
-  raw_more : (from at : ℕ) → from ≤ at → at < length bs → raw_in bs from (at + 1) ≡ raw_in bs from at ++ (get_or bs at 0 ∷ [])
-  raw_more from at h i =
-      let n : at + 1 - from ≡ suc (at - from) = omega arith in
-      let m : from + (at - from) ≡ at = omega arith in
-      ap (λ (x : ℕ). take x (drop from bs)) n
-      ∙ take-suc (drop from bs) (at - from) 0 (simp length-drop (omega arith))
-      ∙ ap (λ (x : ℕ). take (at - from) (drop from bs) ++ (x ∷ [])) (get_or-drop from bs (at - from) 0 ∙ ap (λ (x : ℕ). get_or bs x 0) m)
-
 -- what has been read and what is left make the component; is the next byte released?
-pub record Reading (s : Service) (bs : List ℕ) (from : ℕ) (released : Bool) (at : ℕ) : Type 0 where
-  pub from_start : from ≤ at
-  pub within : at ≤ length bs
-  pub joins : cut s false (drop from bs) ≡ prepend (raw_in bs from at) (cut s released (drop at bs))
+pub record Reading (s : Service) (bs : List ℕ) (released : Bool) (at : ℕ) : Type 0 where
+  pub joins : cut s false bs ≡ prepend (take at bs) (cut s released (drop at bs))
 
-module _ (s : Service) (bs : List ℕ) (from : ℕ) where
-  ends : (at : ℕ) (r : Bool) → Reading s bs from r at → cut s r (drop at bs) ≡ pieces [] (behind_component s (drop at bs)) (further_behind s (drop at bs))
-      → Reads s bs from at
-  ends at r i e =
-      record {
-        from_start = i.from_start;
-        within = i.within;
+module _ (s : Service) (bs : List ℕ) where
+  ends : (at : ℕ) (r : Bool) → Reading s bs r at → cut s r (drop at bs) ≡ pieces [] (behind_component s (drop at bs)) (further_behind s (drop at bs))
+      → (part behind : List ℕ) → part ≡ take at bs → behind ≡ drop at bs → Reads s bs part behind
+  ends at r i e part behind p q =
+      rw (p, q)
+      (record {
+        whole = sym (take-append-drop at bs);
         cuts =
-            i.joins ∙ ap (prepend (raw_in bs from at)) e
-            ∙ ap (λ (x : Raw). pieces x (behind_component s (drop at bs)) (further_behind s (drop at bs))) (append-nil (raw_in bs from at));
-      }
+            i.joins ∙ ap (prepend (take at bs)) e
+            ∙ ap (λ (x : Raw). pieces x (behind_component s (drop at bs)) (further_behind s (drop at bs))) (append-nil (take at bs));
+      })
 
   module _ (at : ℕ) (h : at < length bs) where
     reading_on : (was is : Bool) → cut s was (drop at bs) ≡ add_byte (get_or bs at 0) (cut s is (drop (at + 1) bs))
-        → Reading s bs from was at → Reading s bs from is (at + 1)
+        → Reading s bs was at → Reading s bs is (at + 1)
     reading_on was is e i =
-        let a = i.from_start in
         record {
-          from_start = omega arith;
-          within = omega arith;
           joins =
-              i.joins ∙ ap (prepend (raw_in bs from at)) e ∙ prepend_byte (raw_in bs from at) (get_or bs at 0) (cut s is (drop (at + 1) bs))
-              ∙ ap (λ (x : Raw). prepend x (cut s is (drop (at + 1) bs))) (sym (raw_more bs from at a h));
+              i.joins ∙ ap (prepend (take at bs)) e ∙ prepend_byte (take at bs) (get_or bs at 0) (cut s is (drop (at + 1) bs))
+              ∙ ap (λ (x : Raw). prepend x (cut s is (drop (at + 1) bs))) (sym (ap (λ (n : ℕ). take n bs) (add-one at) ∙ take-suc bs at 0 h));
         }
 
-    pub reading_released : Reading s bs from true at → Reading s bs from false (at + 1)
+    pub reading_released : Reading s bs true at → Reading s bs false (at + 1)
     reading_released i = reading_on true false (cut_released s bs at h) i
 
-    module _ (kind : Kind) (e : kind ≡ kind_of s (get_or bs at 0)) (i : Reading s bs from false at) where
-      pub reading_mark : is_mark kind ≡ true → Reads s bs from at
-      reading_mark m = ends at false i (at_mark s bs at kind h e m)
+    module _ (kind : Kind) (e : kind ≡ kind_of s (get_or bs at 0)) (i : Reading s bs false at) where
+      pub reading_mark : (part behind : List ℕ) → part ≡ take at bs → behind ≡ drop at bs → is_mark kind ≡ true → Reads s bs part behind
+      reading_mark part behind p q m = ends at false i (at_mark s bs at kind h e m) part behind p q
 
-      pub reading_data : (r : Bool) → is_mark kind ≡ false → is_release kind ≡ r → Reading s bs from r (at + 1)
+      pub reading_data : (r : Bool) → is_mark kind ≡ false → is_release kind ≡ r → Reading s bs r (at + 1)
       reading_data r m k =
           reading_on false r (cut_free s bs at kind h e ∙ by_data kind r (get_or bs at 0) (λ (t : Bool). cut s t (drop (at + 1) bs)) m k) i
 
-    pub reading_text : must_release s (get_or bs at 0) ≡ false → Reading s bs from false at → Reading s bs from false (at + 1)
+    pub reading_text : must_release s (get_or bs at 0) ≡ false → Reading s bs false at → Reading s bs false (at + 1)
     reading_text t i =
         ⊎_elim (λ p. reading_data (kind_of s (get_or bs at 0)) refl i false (ap is_mark p) (ap is_release p))
         (λ p. reading_data (kind_of s (get_or bs at 0)) refl i false (ap is_mark p) (ap is_release p)) (unmarked s (get_or bs at 0) t)
 
-  pub reading_done : (at : ℕ) (r : Bool) → length bs ≤ at → Reading s bs from r at → Reads s bs from at
-  reading_done at r h i = ends at r i (at_end s bs at r h)
+  pub reading_begin : Reading s bs false 0
+  reading_begin = record { joins = sym (prepend_none (cut s false bs)) }
+
+  pub reading_done : (at : ℕ) (r : Bool) → length bs ≤ at → Reading s bs r at → Reads s bs bs []
+  reading_done at r h i = ends at r i (at_end s bs at r h) bs [] (sym (take_all at bs h)) (sym (drop_of_length-le bs h))
+
+pub behind_shorter : (s : Service) (bs part behind : List ℕ) → Reads s bs part behind → length behind ≤ length bs
+behind_shorter s bs part behind r =
+    let n : length bs ≡ length part + length behind = ap length r.whole ∙ length-append part behind in omega arith
+
+-- from a component to the next one less is left
+pub next_smaller : (s : Service) (bs part behind : List ℕ) → Reads s bs part behind → (next : List ℕ) → (opens Component s behind ≡ true) × (next ≡ drop 1 behind) → length next < length bs
+next_smaller s bs part behind r next o = let a = behind_shorter s bs part behind r in let n = next_shorter s Component behind next o in omega arith
 
 -- ---- before the first element
 
-module _ (s : Service) (bs : List ℕ) (from : ℕ) where
-  -- the components up to `end` are passed: the further elements are those that stand there
-  pub record Skipping (end : ℕ) : Type 0 where
-    pub from_start : from ≤ end
-    pub within : end ≤ length bs
-    pub further : further_in (cut s false (drop from bs)) ≡ further_behind s (drop end bs)
+module _ (s : Service) (bs : List ℕ) where
+  -- the components before `behind` are passed: the further elements are those that stand there
+  pub record Skipping (behind : List ℕ) : Type 0 where
+    pub shorter : length behind ≤ length bs
+    pub further : further_in (cut s false bs) ≡ further_behind s behind
 
-  module _ (end : ℕ) (i : Skipping end) where
-    past : (o : Bool) → opens_component s (drop end bs) ≡ o
-        → further_in (cut s false (drop from bs)) ≡ cond o (further_in (cut s false (drop 1 (drop end bs)))) (behind_element s (drop end bs))
-    past o k = i.further ∙ ap (λ (t : Bool). cond t (further_in (cut s false (drop 1 (drop end bs)))) (behind_element s (drop end bs))) k
+  pub skipping_begin : (part behind : List ℕ) → Reads s bs part behind → Skipping behind
+  skipping_begin part behind r = record { shorter = behind_shorter s bs part behind r; further = ap further_in r.cuts }
 
-    pub skipping_on : (next : ℕ) → opens_component s (drop end bs) ≡ true → Reads s bs (end + 1) next → Skipping next
-    skipping_on next o r =
-        let a = i.from_start in let b = r.from_start in
+  module _ (behind : List ℕ) (i : Skipping behind) where
+    past : (o : Bool) → opens Component s behind ≡ o → further_in (cut s false bs) ≡ cond o (further_in (cut s false (drop 1 behind))) (behind_element s behind)
+    past o k = i.further ∙ ap (λ (t : Bool). cond t (further_in (cut s false (drop 1 behind))) (behind_element s behind)) k
+
+    pub skipping_on : (next part last : List ℕ) → (opens Component s behind ≡ true) × (next ≡ drop 1 behind) → Reads s next part last → Skipping last
+    skipping_on next part last o r =
+        let a = i.shorter in let b = behind_shorter s next part last r in let n = next_shorter s Component behind next o in
         record {
-          from_start = omega arith;
-          within = r.within;
-          further = past true o ∙ ap (λ (l : List ℕ). further_in (cut s false l)) (one_on s bs end) ∙ ap further_in r.cuts;
+          shorter = omega arith;
+          further = past true o.0 ∙ ap (λ (l : List ℕ). further_in (cut s false l)) (sym o.1) ∙ ap further_in r.cuts;
         }
+
+    pub skipping_done : opens Component s behind ≡ false → Ends s bs behind
+    skipping_done o = record { shorter = i.shorter; further = past false o }
 
 -- ---- has an element bytes?
 
@@ -231,7 +232,7 @@ module _ (s : Service) (bs : List ℕ) where
   unfolding any_bytes has_bytes
   any_none = refl
 
-  by_first : (kind : Kind) (b : ℕ) (rest : Bool → Cut) → is_component_mark kind ≡ false → not (is_mark kind) ≡ any_bytes (components_in (cut_by kind b rest))
+  by_first : (kind : Kind) (b : ℕ) (rest : Bool → Cut) → same_kind kind Component ≡ false → not (is_mark kind) ≡ any_bytes (components_in (cut_by kind b rest))
   by_first Component b rest h = absurd (true≢false h)
   by_first Element b rest h = sym (any_closed (rest false))
   by_first Terminator b rest h = sym any_none
@@ -239,7 +240,7 @@ module _ (s : Service) (bs : List ℕ) where
   by_first Plain b rest h = sym (any_byte b (rest false))
   by_first Other b rest h = sym (any_byte b (rest false))
 
-  by_further : (kind : Kind) (b : ℕ) (rest : Bool → Cut) → is_component_mark kind ≡ true → any_bytes (components_in (cut_by kind b rest)) ≡ any_bytes (components_in (rest false))
+  by_further : (kind : Kind) (b : ℕ) (rest : Bool → Cut) → same_kind kind Component ≡ true → any_bytes (components_in (cut_by kind b rest)) ≡ any_bytes (components_in (rest false))
   by_further Component b rest h = any_opened (rest false)
   by_further Element b rest h = absurd (false≢true h)
   by_further Terminator b rest h = absurd (false≢true h)
@@ -248,11 +249,11 @@ module _ (s : Service) (bs : List ℕ) where
   by_further Other b rest h = absurd (false≢true h)
 
   module _ (at : ℕ) (kind : Kind) (h : at < length bs) (ek : kind ≡ kind_of s (get_or bs at 0)) where
-    pub some_on : is_component_mark kind ≡ true → some_from (at + 1) ≡ some_from at
+    pub some_on : same_kind kind Component ≡ true → some_from (at + 1) ≡ some_from at
     some_on e =
         sym (ap (λ (x : Cut). any_bytes (components_in x)) (cut_free s bs at kind h ek) ∙ by_further kind (get_or bs at 0) (λ r. cut s r (drop (at + 1) bs)) e)
 
-    pub some_here : is_component_mark kind ≡ false → not (is_mark kind) ≡ some_from at
+    pub some_here : same_kind kind Component ≡ false → not (is_mark kind) ≡ some_from at
     some_here e =
         by_first kind (get_or bs at 0) (λ r. cut s r (drop (at + 1) bs)) e ∙ sym (ap (λ (x : Cut). any_bytes (components_in x)) (cut_free s bs at kind h ek))
 
@@ -261,12 +262,10 @@ module _ (s : Service) (bs : List ℕ) where
 
 -- ---- the steps of each function
 
-pub ruleset component_opens = (component_here, component_out)
+pub ruleset opening = (opened_here, opened_out)
 
-pub ruleset element_opens = (element_here, element_out)
+pub ruleset reading = (reading_begin, reading_mark, reading_done)
 
-pub ruleset reading = (reading_mark, reading_done)
-
-pub ruleset skipping = (component_inside, skipping_on)
+pub ruleset skipping = (skipping_begin, skipping_on, skipping_done)
 
 pub ruleset any_written = (some_here, some_on, some_out)

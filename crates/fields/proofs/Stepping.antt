@@ -9,19 +9,19 @@ use mathlib.Core.List.{List, [], ◌∷◌}
 use mathlib.Core.Bool.{Bool, true, false, cond, ◌&&◌, false≢true}
 use mathlib.Core.Logic.{dite}
 use lib.Dec.{eqb}
-use lib.ListN.{length, drop}
-use lib.Seq.{drop-drop}
+use lib.ListN.{length, drop, length-drop}
 use borrow.Author.Tests.{eq-eqb, ne_eqb}
 use Rattle.guide.specs.meaning.Guide.{Guide}
 use Rattle.guide.specs.meaning.View.{numbers_from}
 use Rattle.reading.specs.declared.service.Service.{Service}
+use Rattle.reading.specs.declared.bytes.Kind.TheVariants.{Component, Element}
 use Rattle.fields.specs.method.Parts.{Raw, Cut, cut, components_in, further_in}
 use Rattle.fields.specs.method.Testing.{is_missing, is_broken, names_first, Tested, broken, kept, then_test, test_unnamed, test_component, test_absent, test_components, test_element, at_fault, then_fault, test_rest, test_elements, fault_at, Near, InReach}
-use Rattle.fields.specs.method.Kept.{Ends, opens_component, opens_element, elements_in, raw_in, behind_component, behind_element, Reads, fields_from, fields_in}
+use Rattle.fields.specs.method.Kept.{Ends, opens, elements_in, behind_component, behind_element, Reads, fields_from, fields_in}
 use Rattle.std.specs.Prelude.{Result, Ok, Err}
 use Rattle.std.specs.declared.ops.Range.{Range}
 use Rattle.fields.specs.declared.fault.Fault.{Fault}
-use Rattle.fields.proofs.Cutting.{split, component_inside, element_inside}
+use Rattle.fields.proofs.Cutting.{split, next_shorter, behind_shorter}
 use Rattle.fields.proofs.Fitting.{bytes_none, bytes_some}
 
 -- ---- the fields that are left
@@ -137,70 +137,63 @@ module _ (g : Guide) (f last : ℕ) where
 
 -- ---- the components of an element
 
-module _ (s : Service) (g : Guide) (bs : List ℕ) (from : ℕ) (some : Bool) (e : ℕ) (fields : Range ℕ) where
+module _ (s : Service) (g : Guide) (bs : List ℕ) (some : Bool) (e : ℕ) (fields : Range ℕ) where
   abbrev all_components : Tested
-  all_components = test_components s g some e 1 (components_in (cut s false (drop from bs))) (fields_in fields)
+  all_components = test_components s g some e 1 (components_in (cut s false bs)) (fields_in fields)
 
   -- the test from this component on is the test of all
-  pub record Going (c start : ℕ) (left : Range ℕ) : Type 0 where
-    pub from_start : from ≤ start
-    pub within : start ≤ length bs
-    pub counted : c ≤ start + 1
-    pub same : test_components s g some e c (components_in (cut s false (drop start bs))) (fields_in left) ≡ all_components
-    pub further : further_in (cut s false (drop start bs)) ≡ further_in (cut s false (drop from bs))
+  pub record Going (c : ℕ) (rest : List ℕ) (left : Range ℕ) : Type 0 where
+    pub first : 1 ≤ c
+    pub counted : c + length rest ≤ length bs + 1
+    pub same : test_components s g some e c (components_in (cut s false rest)) (fields_in left) ≡ all_components
+    pub further : further_in (cut s false rest) ≡ further_in (cut s false bs)
 
-  module _ (c start end : ℕ) (left : Range ℕ) (i : Going c start left) (r : Reads s bs start end) where
-    abbrev behind : List ℕ
-    behind = drop end bs
-
+  module _ (c : ℕ) (rest part behind : List ℕ) (left : Range ℕ) (i : Going c rest left) (r : Reads s rest part behind) where
     -- one component, and what stands behind it
-    read_test : test_components s g some e c (components_in (cut s false (drop start bs))) (fields_in left)
-        ≡ then_test (test_component s g some e c (raw_in bs start end) (fields_in left)) (test_components s g some e (suc c) (behind_component s behind))
+    read_test : test_components s g some e c (components_in (cut s false rest)) (fields_in left)
+        ≡ then_test (test_component s g some e c part (fields_in left)) (test_components s g some e (suc c) (behind_component s behind))
     unfolding test_components
     read_test = ap (λ (x : Cut). test_components s g some e c (components_in x) (fields_in left)) r.cuts
 
-    pub going_broken : (x : Fault) → test_component s g some e c (raw_in bs start end) (fields_in left) ≡ broken x.component → (x.element ≡ e) × (x.component ≤ c)
+    pub going_broken : (x : Fault) → test_component s g some e c part (fields_in left) ≡ broken x.component → (x.element ≡ e) × (x.component ≤ c)
         → (all_components ≡ broken x.component) × ((x.element ≡ e) × Near (length bs) x.component)
     going_broken x t w =
-        let n = w.1 in let m = i.counted in let o = i.within in (
+        let n = w.1 in let m = i.counted in (
           sym i.same ∙ read_test ∙ ap (λ (y : Tested). then_test y (test_components s g some e (suc c) (behind_component s behind))) t,
           (w.0, omega arith),
         )
 
-    module _ (next : Range ℕ) (t : test_component s g some e c (raw_in bs start end) (fields_in left) ≡ kept (fields_in next)) where
-      kept_test : (o : Bool) → opens_component s behind ≡ o
-          → test_components s g some e c (components_in (cut s false (drop start bs))) (fields_in left)
-          ≡ test_components s g some e (suc c) (cond o (components_in (cut s false (drop 1 behind))) []) (fields_in next)
+    module _ (last : Range ℕ) (t : test_component s g some e c part (fields_in left) ≡ kept (fields_in last)) where
+      kept_test : (o : Bool) → opens Component s behind ≡ o
+          → test_components s g some e c (components_in (cut s false rest)) (fields_in left)
+          ≡ test_components s g some e (suc c) (cond o (components_in (cut s false (drop 1 behind))) []) (fields_in last)
       kept_test o k =
           read_test ∙ ap (λ (y : Tested). then_test y (test_components s g some e (suc c) (behind_component s behind))) t
-          ∙ ap (λ (y : Bool). test_components s g some e (suc c) (cond y (components_in (cut s false (drop 1 behind))) []) (fields_in next)) k
+          ∙ ap (λ (y : Bool). test_components s g some e (suc c) (cond y (components_in (cut s false (drop 1 behind))) []) (fields_in last)) k
 
-      kept_further : (o : Bool) → opens_component s behind ≡ o → further_in (cut s false (drop start bs)) ≡ cond o (further_in (cut s false (drop 1 behind))) (behind_element s behind)
+      kept_further : (o : Bool) → opens Component s behind ≡ o → further_in (cut s false rest) ≡ cond o (further_in (cut s false (drop 1 behind))) (behind_element s behind)
       kept_further o k = ap further_in r.cuts ∙ ap (λ (y : Bool). cond y (further_in (cut s false (drop 1 behind))) (behind_element s behind)) k
 
-      pub going_on : opens_component s behind ≡ true → Going (c + 1) (end + 1) next
-      going_on k =
-          let a = r.from_start in let b = i.from_start in let d = i.counted in
-          let n = component_inside s bs end k in
-          let one : drop 1 behind ≡ drop (end + 1) bs = drop-drop 1 end bs in
+      pub going_on : (next : List ℕ) → (opens Component s behind ≡ true) × (next ≡ drop 1 behind) → Going (c + 1) next last
+      going_on next o =
+          let a = behind_shorter s rest part behind r in let d = i.counted in let n = next_shorter s Component behind next o in
           record {
-            from_start = omega arith;
-            within = omega arith;
+            first = omega arith;
             counted = omega arith;
             same =
-                ap₂ (λ (x : ℕ) (l : List ℕ). test_components s g some e x (components_in (cut s false l)) (fields_in next)) (add-one c) (sym one)
-                ∙ sym (kept_test true k) ∙ i.same;
-            further = ap (λ (l : List ℕ). further_in (cut s false l)) (sym one) ∙ sym (kept_further true k) ∙ i.further;
+                ap₂ (λ (x : ℕ) (l : List ℕ). test_components s g some e x (components_in (cut s false l)) (fields_in last)) (add-one c) o.1
+                ∙ sym (kept_test true o.0) ∙ i.same;
+            further = ap (λ (l : List ℕ). further_in (cut s false l)) o.1 ∙ sym (kept_further true o.0) ∙ i.further;
           }
 
-      pub going_closed : opens_component s behind ≡ false → all_components ≡ test_absent g some e (fields_in next)
+      pub going_closed : opens Component s behind ≡ false → all_components ≡ test_absent g some e (fields_in last)
       unfolding test_components
       going_closed k = sym i.same ∙ kept_test false k
 
-      pub going_ends : opens_component s behind ≡ false → Ends s bs from end
+      pub going_ends : opens Component s behind ≡ false → Ends s bs behind
       going_ends k =
-          let a = r.from_start in let b = i.from_start in
-          record { from_start = omega arith; within = r.within; further = sym i.further ∙ kept_further false k }
+          let a = behind_shorter s rest part behind r in let b = i.first in let d = i.counted in
+          record { shorter = omega arith; further = sym i.further ∙ kept_further false k }
 
 -- a fault among the first fields is near whatever the message is
 pub near_more : (n : ℕ) (r : Result (Unit {0}) Fault) → InReach 0 r → InReach n r
@@ -210,18 +203,17 @@ near_more n (Ok _) h = tt
 -- ---- the elements of a segment
 
 module _ (s : Service) (g : Guide) (bs : List ℕ) (at line : ℕ) where
-  -- e elements have been tested, the last of which ends at `end`
-  pub record Passing (e end : ℕ) (left : Range ℕ) : Type 0 where
-    pub within : end ≤ length bs
-    pub counted : e ≤ end
-    pub same : test_elements s g (suc e) (behind_element s (drop end bs)) (fields_in left) ≡ fault_at s g bs at line
+  -- e elements have been tested, and this stands behind the last
+  pub record Passing (e : ℕ) (behind : List ℕ) (left : Range ℕ) : Type 0 where
+    pub counted : e + length behind ≤ length bs
+    pub same : test_elements s g (suc e) (behind_element s behind) (fields_in left) ≡ fault_at s g bs at line
 
-  pub passing_begin : (from end : ℕ) (left : Range ℕ) → left.start ≡ g.first_field line → left.end ≡ left.start + g.field_count line
-      → drop from bs ≡ drop (at + 3) bs → Ends s bs from end → Passing 0 end left
+  pub passing_begin : (rest behind : List ℕ) (left : Range ℕ) → left.start ≡ g.first_field line → left.end ≡ left.start + g.field_count line
+      → rest ≡ drop (at + 3) bs → Ends s rest behind → Passing 0 behind left
   unfolding fault_at
-  passing_begin from end left i k d h =
+  passing_begin rest behind left i k d h =
+      let m = h.shorter in let n : length rest ≡ length bs - (at + 3) = ap length d ∙ length-drop (at + 3) bs in
       record {
-        within = h.within;
         counted = omega arith;
         same =
             let z : left.end - left.start ≡ g.field_count line = omega arith in
@@ -229,46 +221,42 @@ module _ (s : Service) (g : Guide) (bs : List ℕ) (at line : ℕ) where
             ∙ ap₂ (λ (x : List ℕ) (fs : List ℕ). test_elements s g 1 (further_in (cut s false x)) fs) d (ap₂ numbers_from i z);
       }
 
-  module _ (e end : ℕ) (left : Range ℕ) (i : Passing e end left) where
-    pub passing_done : opens_element s (drop end bs) ≡ false → test_rest g (fields_in left) ≡ fault_at s g bs at line
+  module _ (e : ℕ) (behind : List ℕ) (left : Range ℕ) (i : Passing e behind left) where
+    pub passing_done : opens Element s behind ≡ false → test_rest g (fields_in left) ≡ fault_at s g bs at line
     unfolding test_elements
     passing_done o =
-        sym (ap (λ (t : Bool). test_elements s g (suc e) (cond t (elements_in (cut s false (drop 1 (drop end bs)))) []) (fields_in left)) o) ∙ i.same
+        sym (ap (λ (t : Bool). test_elements s g (suc e) (cond t (elements_in (cut s false (drop 1 behind))) []) (fields_in left)) o) ∙ i.same
 
-    module _ (o : opens_element s (drop end bs) ≡ true) where
-      pub passing_inside : end < length bs
-      passing_inside = element_inside s bs end o
-
+    module _ (next : List ℕ) (o : (opens Element s behind ≡ true) × (next ≡ drop 1 behind)) where
       -- the next element, and those behind it
       element_test : fault_at s g bs at line
-          ≡ then_fault (e + 1) (test_element s g (e + 1) (components_in (cut s false (drop (end + 1) bs))) (fields_in left)) (test_elements s g (suc (e + 1)) (further_in (cut s false (drop (end + 1) bs))))
+          ≡ then_fault (e + 1) (test_element s g (e + 1) (components_in (cut s false next)) (fields_in left)) (test_elements s g (suc (e + 1)) (further_in (cut s false next)))
       unfolding test_elements
       element_test =
           sym i.same
-          ∙ ap (λ (t : Bool). test_elements s g (suc e) (cond t (elements_in (cut s false (drop 1 (drop end bs)))) []) (fields_in left)) o
-          ∙ ap₂ (λ (n : ℕ) (l : List ℕ). test_elements s g n (elements_in (cut s false l)) (fields_in left)) (sym (add-one e)) (drop-drop 1 end bs)
-          ∙ ap (λ (x : List (List Raw)). test_elements s g (e + 1) x (fields_in left)) (split (cut s false (drop (end + 1) bs)))
+          ∙ ap (λ (t : Bool). test_elements s g (suc e) (cond t (elements_in (cut s false (drop 1 behind))) []) (fields_in left)) o.0
+          ∙ ap₂ (λ (n : ℕ) (l : List ℕ). test_elements s g n (elements_in (cut s false l)) (fields_in left)) (sym (add-one e)) (sym o.1)
+          ∙ ap (λ (x : List (List Raw)). test_elements s g (e + 1) x (fields_in left)) (split (cut s false next))
 
       -- by what the test of the element answers
-      pub passing_broken : (x : Fault) → test_element s g (e + 1) (components_in (cut s false (drop (end + 1) bs))) (fields_in left) ≡ broken x.component
-          → (x.element ≡ e + 1) × Near (length bs) x.component → (Err x ≡ fault_at s g bs at line) × InReach (length bs) (Err x)
+      pub passing_broken : (x : Fault) → test_element s g (e + 1) (components_in (cut s false next)) (fields_in left) ≡ broken x.component
+          → (x.element ≡ e + 1) × Near (length next) x.component → (Err x ≡ fault_at s g bs at line) × InReach (length bs) (Err x)
       passing_broken x t w =
-          let n = i.counted in let m = i.within in let k = w.0 in (
+          let n = i.counted in let m = next_shorter s Element behind next o in let k = w.0 in let j = w.1 in (
             ap (λ (y : ℕ). at_fault y x.component) k
-                ∙ sym (element_test ∙ ap (λ (y : Tested). then_fault (e + 1) y (test_elements s g (suc (e + 1)) (further_in (cut s false (drop (end + 1) bs))))) t),
-            (omega arith, w.1),
+                ∙ sym (element_test ∙ ap (λ (y : Tested). then_fault (e + 1) y (test_elements s g (suc (e + 1)) (further_in (cut s false next)))) t),
+            (omega arith, omega arith),
           )
 
-      pub passing_on : (next : Range ℕ) (closed : ℕ) → test_element s g (e + 1) (components_in (cut s false (drop (end + 1) bs))) (fields_in left) ≡ kept (fields_in next)
-          → Ends s bs (end + 1) closed → Passing (e + 1) closed next
-      passing_on next closed t w =
-          let a = w.from_start in let n = i.counted in
+      pub passing_on : (last : Range ℕ) (closed : List ℕ) → test_element s g (e + 1) (components_in (cut s false next)) (fields_in left) ≡ kept (fields_in last)
+          → Ends s next closed → Passing (e + 1) closed last
+      passing_on last closed t w =
+          let a = w.shorter in let n = i.counted in let m = next_shorter s Element behind next o in
           record {
-            within = w.within;
             counted = omega arith;
             same =
-                ap (λ (x : List (List Raw)). test_elements s g (suc (e + 1)) x (fields_in next)) (sym w.further)
-                ∙ sym (element_test ∙ ap (λ (x : Tested). then_fault (e + 1) x (test_elements s g (suc (e + 1)) (further_in (cut s false (drop (end + 1) bs))))) t);
+                ap (λ (x : List (List Raw)). test_elements s g (suc (e + 1)) x (fields_in last)) (sym w.further)
+                ∙ sym (element_test ∙ ap (λ (x : Tested). then_fault (e + 1) x (test_elements s g (suc (e + 1)) (further_in (cut s false next)))) t);
           }
 
 -- ---- the steps of each function
@@ -281,6 +269,6 @@ pub ruleset absent = (absent_out, absent_other, absent_missing, absent_on)
 
 pub ruleset rest = (rest_missing, rest_on, rest_out)
 
-pub ruleset going = (component_inside, going_broken, going_on, going_closed, going_ends)
+pub ruleset going = (going_broken, going_closed, going_ends)
 
-pub ruleset passing = (passing_begin, passing_inside, passing_broken, passing_on, passing_done, near_more)
+pub ruleset passing = (passing_broken, passing_done, near_more)

@@ -1,6 +1,6 @@
 // One element's components against the fields of the line that are left, which are a range of the book's. The fields rise, so each step
 // only asks for the next.
-ghost use Rattle.std.specs.Prelude.{◌≡◌, ◌≤◌, false, length, drop};
+ghost use Rattle.std.specs.Prelude.{◌≡◌, false};
 ghost use Rattle.guide.specs.meaning.Guide.{guide_of};
 ghost use Rattle.fields.specs.method.Parts.{cut, components_in};
 ghost use Rattle.fields.specs.method.Testing.{kept, names_first, test_component, test_absent, test_components, test_element};
@@ -9,13 +9,14 @@ ghost use Rattle.fields.specs.method.Kept.{fields_in, tested_by, FaultWithin, Cl
 use crate::fault::Fault;
 use crate::{field, parts};
 use guide::layout;
+use reading::bytes::Kind;
 use reading::service::Service;
 use std::ops::Range;
 
-// An element without a fault: where it ends, and the fields that are left.
+// An element without a fault: what stands behind it, and the fields that are left.
 #[derive(Drop)]
-pub struct Closed {
-    pub end: usize,
+pub struct Closed<'a> {
+    pub behind: &'a [u8],
     pub left: Range<u32>,
 }
 
@@ -83,51 +84,45 @@ fn test_absent(
 
 // Its components, from the first on.
 #[tactic(auto, using(crate::proofs::Stepping::going))]
-fn test_components(
+fn test_components<'a>(
     service: Service,
-    message: &[u8],
-    from: usize,
+    mut rest: &'a [u8],
     book: &[u8],
     some: bool,
     element: usize,
     mut left: Range<u32>,
-) -> Result<Closed, Fault>
-    requires { from ≤ length message.now }
-    ensures value { test_components service (guide_of book.now) some element 1 (components_in (cut service false (drop from message.now))) (fields_in left) ≡ when_closed result (λ left. test_absent (guide_of book.now) some element (fields_in left)) }
-    ensures closes { ClosesBy service message.now from element result }
+) -> Result<Closed<'a>, Fault>
+    ensures value { test_components service (guide_of book.now) some element 1 (components_in (cut service false rest.now)) (fields_in left) ≡ when_closed result (λ left. test_absent (guide_of book.now) some element (fields_in left)) }
+    ensures closes { ClosesBy service rest.now element result }
 {
     let mut component: usize = 1;
-    let mut start = from;
     // Stays: it goes from mark to mark, and how many components there are shows only at the last.
     loop {
-        let end = parts::component_end(service, message, start);
-        let part = &message[start..end];
+        let (part, behind) = parts::split_component(service, rest);
         left = test_component(service, book, some, element, component, part, left)?;
-        if !parts::opens_component(service, message, end) {
-            return Ok(Closed { end, left });
-        }
+        let Some(next) = parts::opened(service, behind, Kind::Component) else {
+            return Ok(Closed { behind, left });
+        };
         component += 1;
-        start = end + 1;
+        rest = next;
     }
 }
 
-pub fn test_element(
+pub fn test_element<'a>(
     service: Service,
-    message: &[u8],
-    from: usize,
+    rest: &'a [u8],
     book: &[u8],
     element: usize,
     left: Range<u32>,
-) -> Result<Closed, Fault>
-    requires { from ≤ length message.now }
-    ensures value { test_element service (guide_of book.now) element (components_in (cut service false (drop from message.now))) (fields_in left) ≡ when_closed result (λ left. kept (fields_in left)) }
-    ensures closes { ClosesBy service message.now from element result }
+) -> Result<Closed<'a>, Fault>
+    ensures value { test_element service (guide_of book.now) element (components_in (cut service false rest.now)) (fields_in left) ≡ when_closed result (λ left. kept (fields_in left)) }
+    ensures closes { ClosesBy service rest.now element result }
 {
-    let some = parts::has_bytes(service, message, from);
-    let closed = test_components(service, message, from, book, some, element, left)?;
+    let some = parts::has_bytes(service, rest);
+    let closed = test_components(service, rest, book, some, element, left)?;
     let left = test_absent(book, some, element, closed.left)?;
     Ok(Closed {
-        end: closed.end,
+        behind: closed.behind,
         left,
     })
 }

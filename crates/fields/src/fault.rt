@@ -1,11 +1,12 @@
 // The least fault of one segment against its line: one pass over the segment's bytes and the line's fields.
-ghost use Rattle.std.specs.Prelude.{◌≡◌, ◌+◌, ◌≤◌, length, drop};
+ghost use Rattle.std.specs.Prelude.{◌≡◌, ◌+◌, length, drop};
 ghost use Rattle.guide.specs.meaning.Guide.{guide_of};
 ghost use Rattle.fields.specs.method.Testing.{test_rest, fault_at, InReach};
 ghost use Rattle.fields.specs.method.Kept.{fields_in};
 
 use crate::{element, field, parts};
 use guide::layout;
+use reading::bytes::Kind;
 use reading::service::Service;
 use std::ops::Range;
 
@@ -16,12 +17,11 @@ pub struct Fault {
     pub component: usize,
 }
 
-// Where the bytes behind the segment's tag start; the message's end where there are none.
-fn behind_tag(message: &[u8], at: usize) -> usize
-    ensures bytes { drop result message.now ≡ drop (at + 3) message.now }
-    ensures within { result ≤ length message.now }
+// What stands behind the segment's tag: nothing where the message ends before.
+fn behind_tag(message: &[u8], at: usize) -> &[u8]
+    ensures { result.now ≡ drop (at + 3) message.now }
 {
-    at.saturating_add(3).min(message.len())
+    &message[at.saturating_add(3).min(message.len())..]
 }
 
 // The fields of elements beyond the segment's last.
@@ -56,13 +56,13 @@ pub fn find_fault(
     let first = layout::first_field(book, line);
     let mut left = first..first + layout::field_count(book, line);
     let mut element: usize = 0;
-    let mut end = parts::skip_to_element(service, message, behind_tag(message, at));
+    let mut behind = parts::skip_to_element(service, behind_tag(message, at));
     // Stays: it goes from mark to mark, and how many elements there are shows only at the last.
-    while parts::opens_element(service, message, end) {
+    while let Some(rest) = parts::opened(service, behind, Kind::Element) {
         element += 1;
-        let closed = element::test_element(service, message, end + 1, book, element, left)?;
+        let closed = element::test_element(service, rest, book, element, left)?;
         left = closed.left;
-        end = closed.end;
+        behind = closed.behind;
     }
     test_rest(book, left)
 }

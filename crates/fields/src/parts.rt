@@ -1,34 +1,33 @@
 // The components of a segment as they are written: the only place that reads a segment's bytes one by one.
-ghost use Rattle.std.specs.Prelude.{◌≡◌, ◌≤◌, false, length, drop};
+ghost use Rattle.std.specs.Prelude.{◌≡◌, true, false, length, drop, MatchOption};
 ghost use Rattle.fields.specs.method.Parts.{cut, components_in, any_bytes};
 ghost use Rattle.reading.specs.meaning.Component.{value_of};
-ghost use Rattle.fields.specs.method.Kept.{opens_component, opens_element, Reads, Ends};
+ghost use Rattle.fields.specs.method.Kept.{opens, Reads, Ends};
 
 use reading::bytes;
 use reading::bytes::Kind;
 use reading::service::Service;
 
-// Where the component ends that starts at an offset: at the mark that ends it, or at the message's end. A byte behind a release is
-// no mark. Most bytes are neither, so that is asked first.
+// The component at the front, and what stands behind it, from the mark on that ends it. A byte behind a release is no mark. Most
+// bytes are neither, so that is asked first.
 #[tactic(auto, using(crate::proofs::Cutting::reading))]
-pub fn component_end(service: Service, message: &[u8], from: usize) -> usize
-    requires { from ≤ length message.now }
-    ensures { Reads service message.now from result }
+pub fn split_component(service: Service, rest: &[u8]) -> (&[u8], &[u8])
+    ensures { Reads service rest.now result.0.now result.1.now }
 {
     let mut released = false;
-    for at in from..message.len() {
-        let byte = message[at];
+    for at in 0..rest.len() {
+        let byte = rest[at];
         if released {
             released = false;
         } else if bytes::must_release(service, byte) {
             match bytes::kind_of(service, byte) {
-                Kind::Component | Kind::Element | Kind::Terminator => return at,
+                Kind::Component | Kind::Element | Kind::Terminator => return rest.split_at(at),
                 Kind::Release => released = true,
                 Kind::Plain | Kind::Other => {}
             }
         }
     }
-    message.len()
+    (rest, &[])
 }
 
 // How long a component's value is: a byte that releases the next does not count.
@@ -47,43 +46,37 @@ pub fn value_length(service: Service, part: &[u8]) -> usize
     length
 }
 
-// At a component's end: does another one of its element follow?
-#[tactic(auto, using(crate::proofs::Cutting::component_opens))]
-pub fn opens_component(service: Service, message: &[u8], at: usize) -> bool
-    ensures { result ≡ opens_component service (drop at message.now) }
+// What stands behind such a mark, if one is at the front: it opens another component of the element, or another element.
+#[tactic(auto, using(crate::proofs::Cutting::opening))]
+pub fn opened(service: Service, rest: &[u8], mark: Kind) -> Option<&[u8]>
+    ensures { MatchOption result (opens mark service rest.now ≡ false) (λ next. (opens mark service rest.now ≡ true) × (next.now ≡ drop 1 rest.now)) }
 {
-    at < message.len() && matches!(bytes::kind_of(service, message[at]), Kind::Component)
-}
-
-// Does another element follow?
-// Stays: one function over both marks would need a definition over both besides the two that the clauses name.
-#[tactic(auto, using(crate::proofs::Cutting::element_opens))]
-pub fn opens_element(service: Service, message: &[u8], at: usize) -> bool
-    ensures { result ≡ opens_element service (drop at message.now) }
-{
-    at < message.len() && matches!(bytes::kind_of(service, message[at]), Kind::Element)
-}
-
-// Where the segment's first element is opened, from behind its tag on, or where the segment ends: where it is well-formed, at once.
-#[tactic(auto, using(crate::proofs::Cutting::skipping))]
-pub fn skip_to_element(service: Service, message: &[u8], from: usize) -> usize
-    requires { from ≤ length message.now }
-    ensures { Ends service message.now from result }
-{
-    let mut end = component_end(service, message, from);
-    while opens_component(service, message, end) {
-        end = component_end(service, message, end + 1);
+    match rest {
+        [first, next @ ..] if bytes::kind_of(service, *first) == mark => Some(next),
+        _ => None,
     }
-    end
 }
 
-// Has any component of the element that starts at an offset bytes? The first byte that is no component mark tells.
-#[tactic(auto, using(crate::proofs::Cutting::any_written))]
-pub fn has_bytes(service: Service, message: &[u8], from: usize) -> bool
-    ensures { result ≡ any_bytes (components_in (cut service false (drop from message.now))) }
+// From behind the segment's tag on: what is left from the mark on that opens its first element, or from where it ends. Where the
+// segment is well-formed, that is at once.
+#[tactic(auto, using(crate::proofs::Cutting::skipping))]
+pub fn skip_to_element(service: Service, rest: &[u8]) -> &[u8]
+    ensures { Ends service rest.now result.now }
 {
-    for at in from..message.len() {
-        match bytes::kind_of(service, message[at]) {
+    let (_, mut behind) = split_component(service, rest);
+    while let Some(next) = opened(service, behind, Kind::Component) {
+        behind = split_component(service, next).1;
+    }
+    behind
+}
+
+// Has any component of the element at the front bytes? The first byte that is no component mark tells.
+#[tactic(auto, using(crate::proofs::Cutting::any_written))]
+pub fn has_bytes(service: Service, rest: &[u8]) -> bool
+    ensures { result ≡ any_bytes (components_in (cut service false rest.now)) }
+{
+    for byte in rest {
+        match bytes::kind_of(service, *byte) {
             Kind::Component => {}
             Kind::Element | Kind::Terminator => return false,
             Kind::Release | Kind::Plain | Kind::Other => return true,

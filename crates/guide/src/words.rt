@@ -45,6 +45,9 @@ pub enum Joint {
     Any,
 }
 
+// A literal in a row's expression: "a byte is the number, plus 128 for "not"".
+pub const NEGATED: u32 = 128;
+
 impl TryFrom<u32> for LineKind {
     type Error = NoWord;
 

@@ -1,4 +1,3 @@
 -- How the stages of the code run through the definitions.
 pub mod Refusals
-pub mod PlacedStages
 pub mod Decided

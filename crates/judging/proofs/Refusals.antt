@@ -25,7 +25,7 @@ use Rattle.judging.specs.method.Table.{book_stage, conditions_stage, placing_sta
 use Rattle.judging.specs.method.Answers.{placing_verdict}
 use Rattle.guide.specs.meaning.Plan.{plan_in}
 use Rattle.placing.specs.method.Passes.{homes_from, tested}
-use Rattle.std.specs.Prelude.{⊤, Result, Ok, Err}
+use Rattle.std.specs.Prelude.{Ok, Err}
 use Rattle.placing.specs.declared.passes.Unplaced.{Unplaced}
 use Rattle.placing.specs.declared.passes.Unplaced.TheVariants.{NoHome, Stops}
 use Rattle.rules.specs.method.Conditions.{are_truth_values}

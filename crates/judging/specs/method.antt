@@ -3,3 +3,4 @@
 pub mod Answers
 pub mod Table
 pub mod Refusals
+pub mod Faults

@@ -32,5 +32,8 @@ pub fn judge(
         Err(refusal) => return refusal.into(),
     };
     placing::write_tree(service, message, segments, book, starts, homes, parents);
-    placed::placed_stage(service, message, segments, book, conditions, starts, homes)
+    match placed::find_fault(service, message, segments, book, conditions, starts, homes) {
+        Ok(()) => Verdict::answer(0, segments),
+        Err(fault) => fault.into(),
+    }
 }

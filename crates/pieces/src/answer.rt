@@ -3,17 +3,17 @@ ghost use Rattle.std.specs.Prelude.{◌≡◌};
 ghost use Rattle.framing.specs.method.Refusals.{told};
 ghost use Rattle.pieces.specs.method.Progress.{is_complete, answer_of};
 
-use crate::progress;
 use crate::progress::Progress;
 use framing::Refusal;
 use framing::limits::{LIMIT_BYTES, LIMIT_SEGMENTS};
+use reading::machine;
 
 impl Progress {
     // Do whole segments, at least one, and nothing else make up what has come?
     fn is_complete(self) -> bool
         ensures { result ≡ is_complete self }
     {
-        progress::is_start(self.state) && 0 < self.segments
+        machine::is_start(self.state) && 0 < self.segments
     }
 
     #[tactic(auto, unfolding(crate::specs::method::Progress::answer_of))]

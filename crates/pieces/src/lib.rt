@@ -16,6 +16,7 @@ ghost use Rattle.pieces.specs.method.Outcomes.{piece_outcome, end_outcome};
 use framing::Verdict;
 use numbers::Numbers;
 pub use outcome::{NoState, end_number, piece_number};
+use progress::Progress;
 use reading::service::Service;
 
 // One more piece: its answer, if the message has ended. The numbers of such a message give its answer again.
@@ -36,7 +37,7 @@ pub fn read_piece(
     let Ok(mut numbers) = Numbers::try_from(&*reading) else {
         return Err(NoState);
     };
-    let progress = numbers::progress_of(&numbers);
+    let progress = Progress::from(numbers);
     if progress.ended {
         let verdict = Verdict::from(progress.answer());
         framing::put_verdict(entries, verdict);
@@ -59,7 +60,7 @@ pub fn read_end(reading: &mut [usize], entries: &mut [u32]) -> Result<Verdict, N
     let Ok(mut numbers) = Numbers::try_from(&*reading) else {
         return Err(NoState);
     };
-    let verdict = Verdict::from(numbers::progress_of(&numbers).answer());
+    let verdict = Verdict::from(Progress::from(numbers).answer());
     framing::put_verdict(entries, verdict);
     numbers::put_end(&mut numbers);
     reading.copy_from_slice(&numbers);

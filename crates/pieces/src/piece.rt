@@ -5,7 +5,6 @@ ghost use Rattle.framing.specs.meaning.Limits.{most_bytes};
 ghost use Rattle.pieces.specs.method.Progress.{held, held_after};
 ghost use Rattle.pieces.specs.method.Stops.{stops, pass_on, is_held, after_text, PassesData};
 
-use crate::progress;
 use crate::progress::Progress;
 use framing::limits::LIMIT_BYTES;
 use reading::machine::State;
@@ -13,7 +12,7 @@ use reading::service::Service;
 use reading::{bytes, machine, segment};
 
 // Where the machine stops, and in which state: at the byte that ends a segment, at the first bad byte, or at the piece's end.
-#[derive(Clone, Copy)]
+#[derive(Clone, Copy, PartialEq, Eq, Debug)]
 pub struct Stop {
     pub state: State,
     pub at: usize,
@@ -93,7 +92,7 @@ fn pass_bytes(service: Service, piece: &[u8], from: usize, state: State) -> Stop
 fn next_stop(service: Service, piece: &[u8], from: usize, state: State) -> Stop
     ensures { result ≡ pass_on service state from (drop from piece.now) }
 {
-    if progress::is_start(state)
+    if machine::is_start(state)
         && let Some(end) = segment::find_end(service, piece, from)
     {
         return Stop {
@@ -107,8 +106,8 @@ fn next_stop(service: Service, piece: &[u8], from: usize, state: State) -> Stop
 // A piece, or the part of it, that lies within the bytes that are judged.
 fn read_within(service: Service, progress: Progress, piece: &[u8], starts: &mut [u32]) -> Progress
     requires { progress.bytes + length piece.now ≤ most_bytes }
-    ensures { (result ≡ (held_after service (held progress starts.old) piece.now).progress)
-        × (starts.new ≡ (held_after service (held progress starts.old) piece.now).starts) }
+    ensures progress { result ≡ (held_after service (held progress starts.old) piece.now).progress }
+    ensures starts_left { starts.new ≡ (held_after service (held progress starts.old) piece.now).starts }
 {
     let before = progress.bytes;
     let mut come = progress;
@@ -131,8 +130,8 @@ fn read_within(service: Service, progress: Progress, piece: &[u8], starts: &mut 
 
 // One more piece: the bytes behind the most are not looked at.
 pub fn read_on(service: Service, progress: Progress, piece: &[u8], starts: &mut [u32]) -> Progress
-    ensures { (result ≡ (held_after service (held progress starts.old) piece.now).progress)
-        × (starts.new ≡ (held_after service (held progress starts.old) piece.now).starts) }
+    ensures progress { result ≡ (held_after service (held progress starts.old) piece.now).progress }
+    ensures starts_left { starts.new ≡ (held_after service (held progress starts.old) piece.now).starts }
 {
     if LIMIT_BYTES < progress.bytes {
         return progress;

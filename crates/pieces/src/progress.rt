@@ -1,6 +1,5 @@
 // How far reading has come, by value: all that is kept between two pieces.
 ghost use Rattle.std.specs.Prelude.{◌≡◌};
-ghost use Rattle.reading.specs.method.Machine.{is_start};
 ghost use Rattle.framing.specs.meaning.Limits.{most_segments};
 ghost use Rattle.pieces.specs.method.Progress.{one_more, reached_before, lacks, with_start, segment_ended, failed_at, gone_on};
 
@@ -9,7 +8,7 @@ use reading::machine;
 use reading::machine::State;
 
 // Stays: two flags and `bad`, which counts only in a dead state, and no Option: any eight numbers are a progress, and what is not read of them stays as it was.
-#[derive(Clone, Copy)]
+#[derive(Clone, Copy, PartialEq, Eq, Debug)]
 pub struct Progress {
     // the message has ended
     pub ended: bool,
@@ -27,14 +26,8 @@ pub struct Progress {
     pub lacking: bool,
 }
 
-// Does the machine stand before a segment's first byte? A byte that leads there has ended one.
-pub fn is_start(state: State) -> bool
-    ensures { result ≡ is_start state }
-{
-    matches!(state, State::Start)
-}
-
 // One segment more, up to one over the most: a count that never restarts.
+// Stays: no `saturating_add`, which stops at the type's largest number and not at one over the most.
 fn one_more(segments: usize) -> usize
     ensures { result ≡ one_more most_segments segments }
 {

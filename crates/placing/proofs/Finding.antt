@@ -24,78 +24,79 @@ use Rattle.guide.specs.meaning.Plan.{plan_of}
 use Rattle.placing.specs.method.Walking.{SegmentLine}
 use Rattle.std.specs.Prelude.{Some, None}
 use Rattle.std.proofs.lemmas.Option.{none-some, same_Some}
-use Rattle.placing.specs.method.Kept.{Looked, selected_of, home_tag, tabled_end, TagsOf, first_of_tag}
+use Rattle.placing.specs.method.Kept.{Looked, selected_of, fits, home_tag, tabled_end, TagsOf, first_of_tag}
 use Rattle.placing.specs.declared.home.Selected.{Selected}
+use Rattle.placing.specs.declared.segment.Segment.{Segment}
 use Rattle.reading.proofs.Booleans.{left, right, denied}
 use Rattle.reading.proofs.Starts.{none_left, one_less}
 
 module _ (b : Guide) where
   -- ---- one line
 
-  module _ (s : Service) (bs : List ℕ) (at l : ℕ) where
+  module _ (segment : Segment) (l : ℕ) where
     -- the component that the selector names, where there is one
     abbrev component : Selected
     component =
         record {
           element = b.selector_element l;
           component = b.selector_component l;
-          span = seek_from s bs (at + 3) (b.selector_element l) (b.selector_component l);
+          span = seek_from segment.service segment.message.now (segment.at + 3) (b.selector_element l) (b.selector_component l);
         }
 
-    named : (x : Selected) → Some x ≡ selected_of s b bs at l → (eqb (b.selector_element l) 0 ≡ false) × (x ≡ component)
+    named : (x : Selected) → Some x ≡ selected_of segment b l → (eqb (b.selector_element l) 0 ≡ false) × (x ≡ component)
     named x h = go (eqb (b.selector_element l) 0) refl h
       where
         go : (v : Bool) → eqb (b.selector_element l) 0 ≡ v → Some x ≡ cond v None (Some component) → (eqb (b.selector_element l) 0 ≡ false) × (x ≡ component)
         go true e i = absurd (none-some x (sym i))
         go false e i = (e, same_Some x component i)
 
-    pub no_selector : eqb (b.selector_element l) 0 ≡ true → true ≡ is_selected_at s b bs at l
+    pub no_selector : eqb (b.selector_element l) 0 ≡ true → true ≡ is_selected_at segment.service b segment.message.now segment.at l
     unfolding is_selected_at
     no_selector e = sym (simp e)
 
-    pub all_selected : None ≡ selected_of s b bs at l → true ≡ is_selected_at s b bs at l
+    pub all_selected : None ≡ selected_of segment b l → true ≡ is_selected_at segment.service b segment.message.now segment.at l
     all_selected h = go (eqb (b.selector_element l) 0) refl h
       where
-        go : (v : Bool) → eqb (b.selector_element l) 0 ≡ v → None ≡ cond v None (Some component) → true ≡ is_selected_at s b bs at l
+        go : (v : Bool) → eqb (b.selector_element l) 0 ≡ v → None ≡ cond v None (Some component) → true ≡ is_selected_at segment.service b segment.message.now segment.at l
         go true e i = no_selector e
         go false e i = absurd (none-some component i)
 
-    module _ (x : Selected) (h : Some x ≡ selected_of s b bs at l) where
-      pub selected : (first count : ℕ) (r : Bool) → first ≡ b.first_code l → count ≡ b.code_count l → r ≡ is_any_code b first count (bytes_in x.span bs) → r ≡ is_selected_at s b bs at l
+    module _ (x : Selected) (h : Some x ≡ selected_of segment b l) where
+      pub selected : (first count : ℕ) (r : Bool) → first ≡ b.first_code l → count ≡ b.code_count l → r ≡ is_any_code b first count (bytes_in x.span segment.message.now) → r ≡ is_selected_at segment.service b segment.message.now segment.at l
       unfolding is_selected_at
       selected first count r hf hk hr =
-          hr ∙ ap₂ (λ (y z : ℕ). is_any_code b y z (bytes_in x.span bs)) hf hk
-          ∙ ap (λ (y : Selected). is_any_code b (b.first_code l) (b.code_count l) (bytes_in y.span bs)) (named x h).1
+          hr ∙ ap₂ (λ (y z : ℕ). is_any_code b y z (bytes_in x.span segment.message.now)) hf hk
+          ∙ ap (λ (y : Selected). is_any_code b (b.first_code l) (b.code_count l) (bytes_in y.span segment.message.now)) (named x h).1
           ∙ sym (simp (named x h).0)
 
       -- it lies within the message
-      pub lies_inside : at + 3 ≤ length bs → Inside (length bs) x.span
-      lies_inside i = subst (λ (y : Selected). Inside (length bs) y.span) (sym (named x h).1) (seek_inside s bs (at + 3) (b.selector_element l) (b.selector_component l) i)
+      pub lies_inside : Inside (length segment.message.now) x.span
+      lies_inside = subst (λ (y : Selected). Inside (length segment.message.now) y.span) (sym (named x h).1) (seek_inside segment.service segment.message.now (segment.at + 3) (b.selector_element l) (b.selector_component l) segment.within)
 
-    pub looked : Looked s bs at (selected_of s b bs at l)
+    pub looked : Looked segment (selected_of segment b l)
     looked = go (eqb (b.selector_element l) 0)
       where
-        go : (v : Bool) → Looked s bs at (cond v None (Some component))
+        go : (v : Bool) → Looked segment (cond v None (Some component))
         go true = tt
         go false = refl
 
   -- a line fits that has the tag and is selected
-  module _ (s : Service) (bs : List ℕ) (at t : ℕ) (tag : t ≡ tag_at bs at) (three : t < 2 ^ 24) where
-    pub fits_not : (l x : ℕ) → x ≡ home_tag b l → (x ≡ t → ⊥) → fits_at s b bs at l ≡ false
+  module _ (segment : Segment) where
+    pub fits_not : (l t : ℕ) → t ≡ home_tag b l → (t ≡ segment.tag → ⊥) → fits segment b l ≡ false
     unfolding fits_at
-    fits_not l x e n = go (eqb (b.kind l) group_kind) refl
+    fits_not l t e n = go (eqb (b.kind l) group_kind) refl
       where
-        go : (v : Bool) → eqb (b.kind l) group_kind ≡ v → (eqb (b.tag l) (tag_at bs at) && (not (eqb (b.kind l) group_kind) && is_selected_at s b bs at l)) ≡ false
+        go : (v : Bool) → eqb (b.kind l) group_kind ≡ v → (eqb (b.tag l) (tag_at segment.message.now segment.at) && (not (eqb (b.kind l) group_kind) && is_selected_at segment.service b segment.message.now segment.at l)) ≡ false
         go true k = simp (k, and-false)
-        go false k = simp (ne_eqb (b.tag l) (tag_at bs at) (λ z. n (e ∙ ap (λ (v : Bool). cond v (2 ^ 24) (b.tag l)) k ∙ z ∙ sym tag)))
+        go false k = simp (ne_eqb (b.tag l) (tag_at segment.message.now segment.at) (λ z. n (e ∙ ap (λ (v : Bool). cond v (2 ^ 24) (b.tag l)) k ∙ z ∙ sym segment.its_tag)))
 
-    pub fits_selected : (l x : ℕ) (q : Bool) → x ≡ home_tag b l → x ≡ t → q ≡ is_selected_at s b bs at l → fits_at s b bs at l ≡ q
+    pub fits_selected : (l t : ℕ) (q : Bool) → t ≡ home_tag b l → t ≡ segment.tag → q ≡ is_selected_at segment.service b segment.message.now segment.at l → fits segment b l ≡ q
     unfolding fits_at
-    fits_selected l x q e h i = go (eqb (b.kind l) group_kind) refl
+    fits_selected l t q e h i = go (eqb (b.kind l) group_kind) refl
       where
-        go : (v : Bool) → eqb (b.kind l) group_kind ≡ v → (eqb (b.tag l) (tag_at bs at) && (not (eqb (b.kind l) group_kind) && is_selected_at s b bs at l)) ≡ q
-        go true k = absurd (let z : t ≡ 2 ^ 24 = sym h ∙ e ∙ ap (λ (v : Bool). cond v (2 ^ 24) (b.tag l)) k in omega arith)
-        go false k = simp (k, eq-eqb (b.tag l) (tag_at bs at) (sym (ap (λ (v : Bool). cond v (2 ^ 24) (b.tag l)) k) ∙ sym e ∙ h ∙ tag)) (sym i)
+        go : (v : Bool) → eqb (b.kind l) group_kind ≡ v → (eqb (b.tag l) (tag_at segment.message.now segment.at) && (not (eqb (b.kind l) group_kind) && is_selected_at segment.service b segment.message.now segment.at l)) ≡ q
+        go true k = absurd (let z : segment.tag ≡ 2 ^ 24 = sym h ∙ e ∙ ap (λ (v : Bool). cond v (2 ^ 24) (b.tag l)) k in omega (arith, segment.three_bytes))
+        go false k = simp (k, eq-eqb (b.tag l) (tag_at segment.message.now segment.at) (sym (ap (λ (v : Bool). cond v (2 ^ 24) (b.tag l)) k) ∙ sym e ∙ h ∙ segment.its_tag)) (sym i)
 
 -- ---- the least line
 
@@ -162,40 +163,40 @@ module _ (b : Guide) where
 
   -- ---- the home: the lines before the first of its tag are passed over
 
-  module _ (s : Service) (bs : List ℕ) (at t : ℕ) (tag : t ≡ tag_at bs at) (three : t < 2 ^ 24) (tags : List ℕ) (all : TagsOf b tags) where
-    passed : (l : ℕ) → l < length tags → eqb (get_or tags l 0) t ≡ false → fits_at s b bs at l ≡ false
-    passed l h n = fits_not b s bs at t tag three l (get_or tags l 0) (all.same l h) (eqb-false (get_or tags l 0) t n)
+  module _ (segment : Segment) (tags : List ℕ) (all : TagsOf b tags) where
+    passed : (l : ℕ) → l < length tags → eqb (get_or tags l 0) segment.tag ≡ false → fits segment b l ≡ false
+    passed l h n = fits_not b segment l (get_or tags l 0) (all.same l h) (eqb-false (get_or tags l 0) segment.tag n)
 
     abbrev Shown : ℕ → Type 0
-    Shown x = Least (λ l. eqb (get_or tags l 0) t) 1 (length tags - 1) x
+    Shown y = Least (λ l. eqb (get_or tags l 0) segment.tag) 1 (length tags - 1) y
 
-    shown : Shown (first_of_tag tags t)
-    shown = least_is (λ l. eqb (get_or tags l 0) t) 1 (length tags - 1)
+    shown : Shown (first_of_tag tags segment.tag)
+    shown = least_is (λ l. eqb (get_or tags l 0) segment.tag) 1 (length tags - 1)
 
-    pub home_past : first_of_tag tags t ≡ 0 → least (fits_at s b bs at) (length tags) (suc b.lines - length tags) ≡ home_at s b bs at
-    home_past z = go (first_of_tag tags t) z shown
+    pub home_past : first_of_tag tags segment.tag ≡ 0 → least (fits segment b) (length tags) (suc b.lines - length tags) ≡ home_at segment.service b segment.message.now segment.at
+    home_past z = go (first_of_tag tags segment.tag) z shown
       where
-        go : (x : ℕ) → x ≡ 0 → Shown x → least (fits_at s b bs at) (length tags) (suc b.lines - length tags) ≡ home_at s b bs at
-        go x y (found l i j k f) = absurd (omega arith)
-        go x y (none f) = let w = end_within in first_past (fits_at s b bs at) b.lines (length tags) (omega (arith, w, all.ends)) (omega (arith, w, all.ends)) (λ l i j. passed l j (f l i (omega arith)))
+        go : (y : ℕ) → y ≡ 0 → Shown y → least (fits segment b) (length tags) (suc b.lines - length tags) ≡ home_at segment.service b segment.message.now segment.at
+        go y e (found l i j k f) = absurd (omega arith)
+        go y e (none f) = let w = end_within in first_past (fits segment b) b.lines (length tags) (omega (arith, w, all.ends)) (omega (arith, w, all.ends)) (λ l i j. passed l j (f l i (omega arith)))
 
-    module _ (r : ℕ) (first : r ≡ first_of_tag tags t) (some : 1 ≤ r) where
-      pub home_first : least (fits_at s b bs at) r (suc b.lines - r) ≡ home_at s b bs at
+    module _ (r : ℕ) (first : r ≡ first_of_tag tags segment.tag) (some : 1 ≤ r) where
+      pub home_first : least (fits segment b) r (suc b.lines - r) ≡ home_at segment.service b segment.message.now segment.at
       home_first = go r some (subst Shown (sym first) shown)
         where
-          go : (x : ℕ) → 1 ≤ x → Shown x → least (fits_at s b bs at) x (suc b.lines - x) ≡ home_at s b bs at
-          go x y (found z i j k f) = let w = end_within in first_past (fits_at s b bs at) b.lines x i (omega (arith, w, all.ends)) (λ l p q. passed l (omega arith) (f l p q))
-          go x y (none f) = absurd (omega arith)
+          go : (y : ℕ) → 1 ≤ y → Shown y → least (fits segment b) y (suc b.lines - y) ≡ home_at segment.service b segment.message.now segment.at
+          go y m (found z i j k f) = let w = end_within in first_past (fits segment b) b.lines y i (omega (arith, w, all.ends)) (λ l p q. passed l (omega arith) (f l p q))
+          go y m (none f) = absurd (omega arith)
 
       -- without a selector that one is the home
-      pub home_here : (x : ℕ) → x ≡ b.selector_element r → x ≡ 0 → home_at s b bs at ≡ r
-      home_here x h z = sym home_first ∙ go r some (no_selector b s bs at r (eq-eqb (b.selector_element r) 0 (sym h ∙ z))) (subst Shown (sym first) shown)
+      pub home_here : (e : ℕ) → e ≡ b.selector_element r → e ≡ 0 → home_at segment.service b segment.message.now segment.at ≡ r
+      home_here e h z = sym home_first ∙ go r some (no_selector b segment r (eq-eqb (b.selector_element r) 0 (sym h ∙ z))) (subst Shown (sym first) shown)
         where
-          go : (y : ℕ) → 1 ≤ y → true ≡ is_selected_at s b bs at y → Shown y → least (fits_at s b bs at) y (suc b.lines - y) ≡ y
+          go : (y : ℕ) → 1 ≤ y → true ≡ is_selected_at segment.service b segment.message.now segment.at y → Shown y → least (fits segment b) y (suc b.lines - y) ≡ y
           go y m q (found z i j k f) =
               let w = end_within in
-              least_here (fits_at s b bs at) (suc b.lines) y (omega (arith, w, all.ends))
-              (fits_selected b s bs at t tag three y (get_or tags y 0) true (all.same y (omega arith)) (eqb-true (get_or tags y 0) t k) q)
+              least_here (fits segment b) (suc b.lines) y (omega (arith, w, all.ends))
+              (fits_selected b segment y (get_or tags y 0) true (all.same y (omega arith)) (eqb-true (get_or tags y 0) segment.tag k) q)
           go y m q (none f) = absurd (omega arith)
 
   no_group : (s : Service) (bs : List ℕ) (at l : ℕ) → fits_at s b bs at l ≡ true → eqb (b.kind l) group_kind ≡ false

@@ -17,6 +17,7 @@ use Rattle.reading.specs.declared.cursor.Cursor.{Cursor}
 use Rattle.reading.proofs.Starts.{starts_found, no_starts, starts_end}
 use Rattle.guide.specs.meaning.Plan.{plan_in}
 use Rattle.placing.specs.method.Fitting.{home_at}
+use Rattle.placing.specs.method.Tables.{or_none}
 use Rattle.placing.specs.method.Walking.{start, walked, advanced, is_alive}
 use Rattle.placing.specs.method.Tree.{root_only, parent_in, opened_by, noted}
 use Rattle.slices.specs.method.Entries.{entry}
@@ -32,6 +33,14 @@ pub filled : (xs table : List ℕ) (n : ℕ) → length xs ≡ n → n ≤ lengt
 filled xs table n e h = let all : 0 + length xs ≡ n = omega arith in sets-eq xs table 0 (omega arith) ∙ ap (λ (k : ℕ). xs ++ drop k table) all
 
 module _ (s : Service) (bs book : List ℕ) where
+  -- ---- the home that is found: that of the segment at this offset, in this book
+
+  pub found_home : (r : Option ℕ) (t : Service) (read kept : List ℕ) (at start : ℕ) → r ≡ or_none (home_at t (guide_of kept) read start)
+      → t ≡ s → read ≡ bs → start ≡ at → kept ≡ book → r ≡ or_none (home_at s (guide_of book) bs at)
+  found_home r t read kept at start h i j k l =
+      h ∙ ap₂ (λ (x : Service) (y : List ℕ). or_none (home_at x (guide_of kept) y start)) i j
+      ∙ ap₂ (λ (y : ℕ) (b : List ℕ). or_none (home_at s (guide_of b) bs y)) k l
+
   -- ---- the segments that are left, where k of n have been passed
 
   homes_found : (k n at : ℕ) (x : Span) (next : Cursor) → k < n → Some (x, next) ≡ next_segment s bs at

@@ -1,17 +1,16 @@
 // A segment's home: the least line that it fits. Every line is tried; only this file knows that.
-ghost use Rattle.std.specs.Prelude.{◌≡◌, suc, ◌+◌, ◌-◌, ◌≤◌, ◌<◌, ◌^◌, length, IfSome};
-ghost use Rattle.reading.specs.method.Tag.{tag_at};
+ghost use Rattle.std.specs.Prelude.{◌≡◌, suc, ◌-◌, ◌≤◌};
 ghost use Rattle.guide.specs.meaning.Guide.{guide_of};
-ghost use Rattle.placing.specs.method.Fitting.{is_selected_at, fits_at, home_at};
+ghost use Rattle.placing.specs.method.Fitting.{is_selected_at, home_at};
 ghost use Rattle.placing.specs.meaning.Fitting.{least};
-ghost use Rattle.placing.specs.method.Kept.{Looked, selected_of, home_tag, tabled_end, TagsOf, first_of_tag};
+ghost use Rattle.placing.specs.method.Kept.{Looked, selected_of, fits, home_tag, tabled_end, TagsOf, first_of_tag};
 ghost use Rattle.placing.specs.method.Tables.{or_none};
 
+use crate::segment::Segment;
 use arrayvec::ArrayVec;
 use guide::{code, layout};
-use reading::service::Service;
+use reading::lookup;
 use reading::span::Span;
-use reading::{lookup, tag};
 
 // A component that has been looked up, and where it lies.
 #[derive(Clone, Copy)]
@@ -21,65 +20,51 @@ pub struct Selected {
     pub span: Span,
 }
 
-// The component that the line's selector names; none where it has no selector. Lines of one tag mostly name the same, so the one
-// before is kept.
-fn select(
-    service: Service,
-    message: &[u8],
-    at: usize,
-    book: &[u8],
-    line: u32,
-    before: Option<Selected>,
-) -> Option<Selected>
-    requires within { at + 3 ≤ length message.now }
-    requires looked { Looked service message.now at before }
-    ensures { result ≡ selected_of service (guide_of book.now) message.now at line }
-{
-    let element = layout::selector_element(book, line);
-    let component = layout::selector_component(book, line);
-    if element == 0 {
-        return None;
-    }
-    if let Some(selected) = before {
-        if selected.element == element && selected.component == component {
-            return before;
+impl<'a> Segment<'a> {
+    // The component that the line's selector names; none where it has no selector. Lines of one tag mostly name the same, so the one
+    // before is kept.
+    fn select(&self, book: &[u8], line: u32, before: Option<Selected>) -> Option<Selected>
+        requires looked { Looked self.now before }
+        ensures { result ≡ selected_of self.now (guide_of book.now) line }
+    {
+        let element = layout::selector_element(book, line);
+        let component = layout::selector_component(book, line);
+        if element == 0 {
+            return None;
         }
+        if let Some(selected) = before {
+            if selected.element == element && selected.component == component {
+                return before;
+            }
+        }
+        let span = lookup::seek_from(
+            self.service,
+            self.message,
+            self.at + 3,
+            element as usize,
+            component as usize,
+        );
+        Some(Selected {
+            element,
+            component,
+            span,
+        })
     }
-    let span = lookup::seek_from(
-        service,
-        message,
-        at + 3,
-        element as usize,
-        component as usize,
-    );
-    Some(Selected {
-        element,
-        component,
-        span,
-    })
-}
 
-// Is the component's value, as it is written, among the line's codes? Every segment is selected where there is no selector.
-#[tactic(auto, using(crate::proofs::Finding::all_selected, crate::proofs::Finding::selected, crate::proofs::Finding::lies_inside))]
-fn is_selected(
-    service: Service,
-    message: &[u8],
-    at: usize,
-    book: &[u8],
-    line: u32,
-    selected: Option<Selected>,
-) -> bool
-    requires within { at + 3 ≤ length message.now }
-    requires selected { selected ≡ selected_of service (guide_of book.now) message.now at line }
-    ensures { result ≡ is_selected_at service (guide_of book.now) message.now at line }
-{
-    let Some(selected) = selected else {
-        return true;
-    };
-    let first = layout::first_code(book, line) as u16;
-    let count = layout::code_count(book, line) as u16;
-    let Span { start, end } = selected.span;
-    code::is_any_code(book, first, count, &message[start..end])
+    // Is the component's value, as it is written, among the line's codes? Every segment is selected where there is no selector.
+    #[tactic(auto, using(crate::proofs::Finding::all_selected, crate::proofs::Finding::selected, crate::proofs::Finding::lies_inside))]
+    fn is_selected(&self, book: &[u8], line: u32, selected: Option<Selected>) -> bool
+        requires selected { selected ≡ selected_of self.now (guide_of book.now) line }
+        ensures { result ≡ is_selected_at self.now.service (guide_of book.now) self.now.message.now self.now.at line }
+    {
+        let Some(selected) = selected else {
+            return true;
+        };
+        let first = layout::first_code(book, line) as u16;
+        let count = layout::code_count(book, line) as u16;
+        let Span { start, end } = selected.span;
+        code::is_any_code(book, first, count, &self.message[start..end])
+    }
 }
 
 // Lines 0 to 256, which are all that a good book can have.
@@ -163,25 +148,15 @@ impl<'a> Lines<'a> {
 
     // The least line, from the first one on, that the segment fits.
     #[tactic(auto, using(crate::proofs::OrNone::is_none, crate::proofs::OrNone::is_some_number, crate::proofs::Finding::least_none, crate::proofs::Finding::least_here, crate::proofs::Finding::least_on, crate::proofs::Finding::fits_not, crate::proofs::Finding::fits_selected, crate::proofs::Finding::looked))]
-    fn find_from(
-        &self,
-        service: Service,
-        message: &[u8],
-        at: usize,
-        tag: u32,
-        first: u32,
-    ) -> Option<u32>
-        requires within { at + 3 ≤ length message.now }
-        requires its_tag { tag ≡ tag_at message.now at }
-        requires three_bytes { tag < 2 ^ 24 }
+    fn find_from(&self, segment: &Segment, first: u32) -> Option<u32>
         requires some_line { 1 ≤ first }
-        ensures { result ≡ or_none (least (fits_at service (guide_of self.now.book.now) message.now at) first (suc (guide_of self.now.book.now).lines - first)) }
+        ensures { result ≡ or_none (least (fits segment.now (guide_of self.now.book.now)) first (suc (guide_of self.now.book.now).lines - first)) }
     {
         let mut selected = None;
         for line in first..=layout::lines(self.book) {
-            if self.tag_of(line) == tag {
-                selected = select(service, message, at, self.book, line, selected);
-                if is_selected(service, message, at, self.book, line, selected) {
+            if self.tag_of(line) == segment.tag {
+                selected = segment.select(self.book, line, selected);
+                if segment.is_selected(self.book, line, selected) {
                     return Some(line);
                 }
             }
@@ -189,20 +164,18 @@ impl<'a> Lines<'a> {
         None
     }
 
-    // The home of the segment that starts at an offset, with three bytes at least. The first line of its tag is its home, where that
-    // has no selector. Else the lines from there on are tried, or those that the table has no room for.
+    // The home of a segment. The first line of its tag is its home, where that has no selector. Else the lines from there on are
+    // tried, or those that the table has no room for.
     #[tactic(auto, using(crate::proofs::OrNone::no_number, crate::proofs::OrNone::some_number, crate::proofs::Finding::home_past, crate::proofs::Finding::home_first))]
-    pub fn find_home(&self, service: Service, message: &[u8], at: usize) -> Option<u32>
-        requires { at + 3 ≤ length message.now }
-        ensures { result ≡ or_none (home_at service (guide_of self.now.book.now) message.now at) }
+    pub fn find_home(&self, segment: &Segment) -> Option<u32>
+        ensures { result ≡ or_none (home_at segment.now.service (guide_of self.now.book.now) segment.now.message.now segment.now.at) }
     {
-        let tag = tag::tag_at(message, at);
-        let Some(first) = self.first_of_tag(tag) else {
-            return self.find_from(service, message, at, tag, self.tags.len() as u32);
+        let Some(first) = self.first_of_tag(segment.tag) else {
+            return self.find_from(segment, self.tags.len() as u32);
         };
         if layout::selector_element(self.book, first) == 0 {
             return Some(first);
         }
-        self.find_from(service, message, at, tag, first)
+        self.find_from(segment, first)
     }
 }

@@ -6,6 +6,7 @@ ghost use Rattle.placing.specs.method.Passes.{homes_from, first_stop, outcome_of
 ghost use Rattle.reading.specs.method.Starts.{starts_table};
 
 use crate::home::Lines;
+use crate::segment::Segment;
 use crate::tree::Trail;
 use crate::walk::Walk;
 use reading::cursor::Cursor;
@@ -58,7 +59,8 @@ pub fn test_placing(
         let Some((_, next)) = cursor.next_segment(service, message) else {
             return outcome_of(stop);
         };
-        let Some(home) = lines.find_home(service, message, at) else {
+        let segment = Segment::at(service, message, at);
+        let Some(home) = lines.find_home(&segment) else {
             return Err(Unplaced::NoHome(place));
         };
         walk.advance(book, home);
@@ -91,8 +93,9 @@ pub fn write_tree(
         let Some((_, next)) = cursor.next_segment(service, message) else {
             return;
         };
+        let segment = Segment::at(service, message, at);
         // Stays: 0 for no home is what the lent table has (C interface).
-        let home = lines.find_home(service, message, at).unwrap_or(0);
+        let home = lines.find_home(&segment).unwrap_or(0);
         slices::put(starts, entry as usize, slices::entry_of(at));
         slices::put(homes, entry as usize, home);
         slices::put(parents, entry as usize, trail.parent_of(book, home));

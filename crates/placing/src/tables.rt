@@ -18,8 +18,8 @@ pub fn place_of(homes: &[u32], segments: u32, line: u32) -> Option<u32>
     Some(entry as u32 + 1)
 }
 
-// Where the segment at a place starts, of so many; 0 where there is none.
-// Stays: 0 is where judging looks for the Prüfidentifikator then, so an Option would only be unwrapped.
+// Where the segment at a place starts, of so many. Place 0 is read as the first; behind the last it is 0.
+// Stays: judging looks for the Prüfidentifikator there in any case, so an Option would only be unwrapped.
 pub fn start_of(starts: &[u32], segments: u32, place: u32) -> u32
     ensures { result ≡ get_or (take segments starts.now) (place - 1) 0 }
 {

@@ -35,10 +35,6 @@ impl<'a> Iterator for Segments<'a> {
 
     fn next(&mut self) -> Option<Span> {
         let (span, next) = self.cursor.next_segment(Service::standard(), self.text)?;
-        // that it moves on, and not past the end, is tested here, and so need not be known
-        if next.at <= self.cursor.at || self.text.len() < next.at {
-            return None;
-        }
         self.cursor = next;
         Some(span)
     }

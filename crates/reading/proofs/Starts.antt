@@ -33,6 +33,22 @@ found_within s bs at x next e = go (segment_end s bs at) refl e
     go (Some end) i h = let w = end_within s bs at end i in let a = w.behind in let b = w.inside in omega arith
     go None i h = cc
 
+found_is : {f g : Span × Cursor} → Some f ≡ Some g → f ≡ g
+found_is e = cc
+
+-- the cursor moves on, and not past the end
+pub moves_within : (s : Service) (bs : List ℕ) (at : ℕ) (x : Span) (next : Cursor) → Some (x, next) ≡ next_segment s bs at → (at < next.at) × (next.at ≤ length bs)
+moves_within s bs at x next e = go (segment_end s bs at) refl e
+  where
+    go : (end : Option ℕ) → segment_end s bs at ≡ end → Some (x, next) ≡ found_by at end → (at < next.at) × (next.at ≤ length bs)
+    go (Some end) i h =
+        let w = end_within s bs at end i in
+        let a = w.behind in
+        let b = w.inside in
+        let n : next.at ≡ end + 1 = ap (λ (f : Span × Cursor). f.1.at) (found_is h) in
+        (omega arith, omega arith)
+    go None i h = cc
+
 module _ (s : Service) (bs : List ℕ) where
   -- ---- the segments that are left, where k of n have been passed
 

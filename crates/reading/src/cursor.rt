@@ -6,6 +6,7 @@ use crate::segment;
 use crate::service::Service;
 use crate::span::Span;
 
+// Stays: no iterator: its contract would need a `next_gives` over `next_segment`, and both passes over segments a `take` and its place: no plainer.
 #[derive(Clone, Copy, PartialEq, Eq, Debug)]
 pub struct Cursor {
     pub at: usize,

@@ -68,6 +68,7 @@ pub fn seek_from(
 }
 
 // Where a component lies. Without such a segment, and for a number 0, the empty part at the message's end.
+// Stays: a span, and no Option: a call from C is handed the empty part, and where that lies is promised.
 #[tactic(auto, using(crate::proofs::Ending::end_within))]
 pub fn component_span(
     service: Service,

@@ -1,7 +1,7 @@
 // One byte more: the state that reading keeps between bytes, and how a byte moves it. Where a message goes wrong is asked byte by byte.
 ghost use Rattle.std.specs.Prelude.{◌≡◌};
 ghost use Rattle.reading.specs.meaning.Service.{is_tag_byte};
-ghost use Rattle.reading.specs.method.Machine.{after_tag, after_tagged, after_opened, after_parted, after_inside, after_released, stepped, is_dead, bad_from};
+ghost use Rattle.reading.specs.method.Machine.{after_tag, after_tagged, after_opened, after_parted, after_inside, after_released, stepped, is_start, is_dead, bad_from};
 
 use crate::bytes;
 use crate::bytes::Kind;
@@ -106,6 +106,13 @@ pub fn step(service: Service, state: State, byte: u8) -> State
     }
 }
 
+// Does a segment's first byte come next? A byte that leads there has ended one.
+pub fn is_start(state: State) -> bool
+    ensures { result ≡ is_start state }
+{
+    matches!(state, State::Start)
+}
+
 // Is reading past a fault?
 pub fn is_dead(state: State) -> bool
     ensures { result ≡ is_dead state }
@@ -114,6 +121,7 @@ pub fn is_dead(state: State) -> bool
 }
 
 // The first bad byte from an offset on, where a segment's tag is to start; the end if there is none.
+// Stays: a place, and no Option: where no byte is bad the message is cut short, and its end is the place of the fault.
 #[tactic(auto, using(crate::proofs::Scanning::looking_on, crate::proofs::Scanning::looking_out))]
 pub fn find_bad(service: Service, message: &[u8], from: usize) -> usize
     ensures { result ≡ bad_from service message.now from }

@@ -3,6 +3,7 @@ ghost use Rattle.std.specs.Prelude.{◌≡◌};
 ghost use Rattle.reading.specs.meaning.Service.{standard};
 
 // The five, in the order in which an interchange names them.
+// Stays: passed beside the message, and not with it in one struct with a lifetime: each clause would have to say `text.entry.service text.entry.bytes.now`, and many functions take the five alone.
 #[derive(Clone, Copy, PartialEq, Eq, Debug)]
 pub struct Service {
     pub component: u8,

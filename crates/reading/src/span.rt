@@ -3,6 +3,7 @@ ghost use Rattle.std.specs.Prelude.{◌≡◌};
 ghost use Rattle.reading.specs.meaning.Component.{span};
 
 // From the offset `start` up to, and not including, the offset `end`.
+// Stays: a type of its own, since std's Range is not Copy.
 #[derive(Clone, Copy, PartialEq, Eq, Debug)]
 pub struct Span {
     pub start: usize,

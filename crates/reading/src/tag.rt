@@ -8,6 +8,7 @@ pub const UNH: u32 = 0x484e55;
 pub const UNT: u32 = 0x544e55;
 
 // The tag of the segment that starts at an offset: its three bytes as one number, the first one lowest.
+// Stays: 0 past the end, and no Option, is what the definition says, and no tag.
 pub fn tag_at(message: &[u8], at: usize) -> u32
     ensures { (result ≡ tag_at message.now at) × (result < 2 ^ 24) }
 {

@@ -11,6 +11,7 @@ use Rattle.reading.proofs.bytes.is_tag_byte.Reads as is_tag_byte
 use Rattle.reading.proofs.bytes.kind_of.Reads as kind_of
 use Rattle.reading.proofs.bytes.must_release.Reads as must_release
 use Rattle.reading.proofs.machine.step.Reads as step
+use Rattle.reading.proofs.machine.is_start.Reads as is_start_lem
 use Rattle.reading.proofs.machine.is_dead.Reads as is_dead_lem
 use Rattle.reading.proofs.segment.is_released.Reads as is_released
 use Rattle.reading.proofs.segment.find_end.Reads as find_end
@@ -55,6 +56,9 @@ one_must_release κs a r q x y m n = m ∙ sym n
 
 pub one_step : One step.Post
 one_step κs a r q x y m n = m ∙ sym n
+
+pub one_is_start : One is_start_lem.Post
+one_is_start κs a r q x y m n = m ∙ sym n
 
 pub one_is_dead : One is_dead_lem.Post
 one_is_dead κs a r q x y m n = m ∙ sym n

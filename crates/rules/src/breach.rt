@@ -7,9 +7,9 @@ ghost use Rattle.guide.specs.method.Spoken.{SpeaksMode};
 ghost use Rattle.guide.specs.meaning.View.{row_numbered};
 ghost use Rattle.rules.specs.method.Scanning.{read_row, breach_of, first_unknown};
 
-use crate::conditions::{self, NEGATED};
+use crate::conditions;
 use guide::layout;
-use guide::words::{Joint, Mode, NoWord};
+use guide::words::{Joint, Mode, NEGATED, NoWord};
 
 // In which fillings a row is broken; where in some only, with the lowest unknown condition of the row.
 #[derive(Clone, Copy, PartialEq, Eq)]

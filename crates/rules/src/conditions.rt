@@ -3,13 +3,12 @@ ghost use Rattle.std.specs.Prelude.{◌≡◌};
 ghost use Rattle.rules.specs.method.Conditions.{are_truth_values, said_of};
 ghost use Rattle.rules.specs.method.Scanning.{guessed};
 
+use guide::words::NEGATED;
+
 // The bytes of a condition; 0 is false.
 const TRUE: u32 = 1;
 
 const UNKNOWN: u32 = 2;
-
-// 01: "a byte is the number, plus 128 for "not"".
-pub const NEGATED: u32 = 128;
 
 // Is each byte 0, 1 or 2: false, true or unknown?
 pub fn are_truth_values(conditions: &[u8]) -> bool

@@ -5,6 +5,7 @@ ghost use Rattle.std.specs.Prelude.{◌≡◌, ◌<◌, get_or, set};
 ghost use Rattle.slices.specs.method.Entries.{entry};
 
 // The byte at an offset; 0 past the end.
+// Stays: no Option: the definitions read bytes past the end as 0.
 pub fn byte_at(bytes: &[u8], at: usize) -> u32
     ensures { (result ≡ get_or bytes.now at 0) × (result < 256) }
 {

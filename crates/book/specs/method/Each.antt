@@ -3,7 +3,7 @@ use Rattle.std.specs.Prelude.{ℕ, ◌+◌, ◌*◌, ◌-◌, ◌≤◌, ◌<◌
 use Rattle.guide.specs.meaning.Guide.{Guide, guide_of}
 use Rattle.book.specs.meaning.Rule.{Rule, ◌and◌, every}
 use Rattle.book.specs.method.Run.{all, run}
-use Rattle.book.specs.meaning.GoodBook.{edition_rule, length_rule, blocks_rule, counts_rule, kind_rule, depth_rule, tag_rule, required_rule, selector_rule, code_range_rule, maximum_rule, field_range_rule, group_rule, code_rule, field_rule, identifier_form_rule, identifier_rises, mode_rule, row_end_rule, required_row_rule, rising_fields_rule, trigger_rule, fall_rule, only_frames_rule, carrier_group_rule, frames_rule, carrier_rule, pair_rule}
+use Rattle.book.specs.meaning.GoodBook.{edition_rule, length_rule, blocks_rule, counts_rule, kind_rule, depth_rule, tag_rule, required_rule, selector_rule, code_range_rule, maximum_rule, field_range_rule, group_rule, code_rule, field_rule, identifier_form_rule, identifier_rises, mode_rule, row_end_rule, required_row_rule, rising_fields_rule, trigger_rule, fall_rule, only_frames_rule, carrier_group_rule, frames_rule, carrier_rule, not_among_rule, pair_rule}
 
 -- what is asked of one record
 module _ (g : Guide) where
@@ -48,6 +48,10 @@ records_rule g = lines_rule g and codes_rule g and fields_rule g and identifiers
 -- the lines among each other
 abbrev pub structures_rule : Guide → Rule
 structures_rule g = every 1 g.lines (structure_rule g)
+
+-- none of a line's codes is among another's
+abbrev pub no_code_rule : Guide → ℕ → ℕ → Rule
+no_code_rule g l m = every (g.first_code l) (g.code_count l) (not_among_rule g m)
 
 -- one home: each line with those before it, which are told apart from each other by then
 unfoldable pub home_rule : Guide → ℕ → Rule

@@ -1,26 +1,32 @@
 -- What the search for a home keeps between lines and between segments. Only the contracts of src/home.rt speak of it; what a home
 -- is stands in Fitting.antt.
-use Rattle.std.specs.Prelude.{ℕ, suc, ◌+◌, ◌-◌, ◌<◌, ◌^◌, ◌≡◌, List, cond, eqb, ltb, length, get_or, Option, None, Some, IfSome}
+use Rattle.std.specs.Prelude.{ℕ, suc, ◌+◌, ◌-◌, ◌<◌, ◌^◌, ◌≡◌, List, Bool, cond, eqb, ltb, length, get_or, Option, None, Some, IfSome}
 use Rattle.guide.specs.meaning.Guide.{Guide}
 use Rattle.guide.specs.meaning.Words.{group_kind}
 use Rattle.reading.specs.method.Machine.{seek_from}
-use Rattle.reading.specs.declared.service.Service.{Service}
 use Rattle.placing.specs.meaning.Fitting.{least}
+use Rattle.placing.specs.method.Fitting.{fits_at}
+use Rattle.placing.specs.declared.segment.Segment.{Segment}
 use Rattle.placing.specs.declared.home.Selected.{Selected}
 
 -- a component that has been looked up lies where it is said to lie
-abbrev pub Looked : Service → List ℕ → ℕ → Option Selected → Type 0
-Looked s bs at before = IfSome before (λ x. x.span ≡ seek_from s bs (at + 3) x.element x.component)
+abbrev pub Looked : Segment → Option Selected → Type 0
+Looked segment before =
+    IfSome before (λ x. x.span ≡ seek_from segment.service segment.message.now (segment.at + 3) x.element x.component)
 
 -- the component that a line's selector names; none where it has no selector
-abbrev pub selected_of : Service → Guide → List ℕ → ℕ → ℕ → Option Selected
-selected_of s b bs at l =
+abbrev pub selected_of : Segment → Guide → ℕ → Option Selected
+selected_of segment b l =
     cond (eqb (b.selector_element l) 0) None
     (Some (record {
       element = b.selector_element l;
       component = b.selector_component l;
-      span = seek_from s bs (at + 3) (b.selector_element l) (b.selector_component l);
+      span = seek_from segment.service segment.message.now (segment.at + 3) (b.selector_element l) (b.selector_component l);
     }))
+
+-- does the segment fit the line?
+abbrev pub fits : Segment → Guide → ℕ → Bool
+fits segment b = fits_at segment.service b segment.message.now segment.at
 
 -- the tag of the segments that a line can be home to: a segment's tag has three bytes, and a group is home to none
 abbrev pub home_tag : Guide → ℕ → ℕ

@@ -8,7 +8,7 @@ use borrow.Author.Tests.{tests}
 use Rattle.std.proofs.Common.{rules}
 use Rattle.guide.specs.meaning.Guide.{guide_of}
 use Rattle.book.specs.meaning.GoodBook.{rising_fields_rule, field_rises}
-use Rattle.book.proofs.Ranges.{every_asked}
+use Rattle.book.proofs.Asked.{every_asked}
 use Rattle.book.proofs.check.fields_rise.Goals as goal
 
 pub returns : goal.returns

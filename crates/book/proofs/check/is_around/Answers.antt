@@ -7,7 +7,7 @@ use borrow.Author.Tests.{tests, le-leb}
 use Rattle.std.proofs.Common.{rules}
 use Rattle.guide.specs.meaning.Guide.{guide_of}
 use Rattle.book.specs.meaning.GoodBook.{around_rule, deeper_rule}
-use Rattle.book.proofs.Ranges.{every_asked}
+use Rattle.book.proofs.Asked.{every_asked}
 use Rattle.book.proofs.check.is_around.Goals as goal
 
 pub returns-then-line-other : goal.returns-then-line-other

@@ -4,7 +4,7 @@ use borrow.Author.Tests.{tests}
 use Rattle.std.proofs.Common.{rules}
 use Rattle.guide.specs.meaning.Guide.{guide_of}
 use Rattle.book.specs.meaning.GoodBook.{field_rule}
-use Rattle.book.proofs.Ranges.{every_asked}
+use Rattle.book.proofs.Asked.{every_asked}
 use Rattle.book.proofs.fields.fields_are_good.Goals as goal
 
 pub returns : goal.returns

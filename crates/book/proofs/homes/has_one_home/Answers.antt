@@ -6,11 +6,11 @@ use Rattle.std.proofs.Common.{rules}
 use Rattle.guide.specs.meaning.Guide.{guide_of}
 use Rattle.book.specs.meaning.GoodBook.{pair_rule}
 use Rattle.book.specs.method.Each.{home_rule}
-use Rattle.book.proofs.Ranges.{every_asked}
+use Rattle.book.proofs.Asked.{every_asked}
 use Rattle.book.proofs.homes.has_one_home.Goals as goal
 
 pub returns : goal.returns
 unfolding home_rule
 returns c =
-    every_asked (λ (earlier : ℕ). pair_rule (guide_of c.args.book.now) earlier c.args.line) c.in-Some.first c.args.line (c.args.line - c.in-Some.first) _ _ c.all.result c.all.ensures.ran refl (λ x b q k. search (rules, tests))
+    every_asked (λ (earlier : ℕ). pair_rule (guide_of c.args.codes.now.book.now) earlier c.args.line) c.in-Some.first c.args.line (c.args.line - c.in-Some.first) _ _ c.all.result c.all.ensures.ran refl (λ x b q k. search (rules, tests))
     ∙ c.in-Some.ensures.same

@@ -5,5 +5,5 @@ use lib.ListN.{drop}
 use Rattle.fields.specs.method.Parts.{cut, components_in, any_bytes}
 use Rattle.fields.proofs.parts.has_bytes.Given as goal
 
-abbrev pub invariant-loop-at : goal.invariant-loop-at
-invariant-loop-at l = any_bytes (components_in (cut l.service false (drop l.at l.message))) ≡ any_bytes (components_in (cut l.service false (drop l.from l.message)))
+abbrev pub invariant-loop-byte : goal.invariant-loop-byte
+invariant-loop-byte l = any_bytes (components_in (cut l.service false (drop l.byte-index l.rest))) ≡ any_bytes (components_in (cut l.service false l.rest))

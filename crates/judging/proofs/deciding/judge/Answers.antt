@@ -11,10 +11,15 @@ returns-in-Err c =
     decided_refused _ _ _ _ (tables c.args.starts.now c.args.homes.now c.args.parents.now) _ (c.into.ensures ∙ c.in-Err.ensures)
     (λ z. refused c.in-Err.refusal (ap (λ (v : Verdict). v.number) (sym c.into.ensures) ∙ z))
 
-pub placed_stage-requires : goal.placed_stage-requires
-placed_stage-requires c = within _ _ _ _ (tables c.args.starts.now c.args.homes.now c.args.parents.now) _ c.in-Ok.ensures refl
+pub find_fault-requires : goal.find_fault-requires
+find_fault-requires c = within _ _ _ _ (tables c.args.starts.now c.args.homes.now c.args.parents.now) _ c.in-Ok.ensures refl
 
-pub returns : goal.returns
-returns c =
+pub returns-in-Ok-find_fault : goal.returns-in-Ok-find_fault
+returns-in-Ok-find_fault c =
     decided_placed _ _ _ _ (tables c.args.starts.now c.args.homes.now c.args.parents.now) _ c.in-Ok.ensures refl _ _ _
-    c.write_tree.ensures.starts c.write_tree.ensures.homes c.write_tree.ensures.parents _ c.placed_stage.ensures
+    c.write_tree.ensures.starts c.write_tree.ensures.homes c.write_tree.ensures.parents _ (c.answer.ensures ∙ c.in-Ok-find_fault.ensures)
+
+pub returns-in-Err-find_fault : goal.returns-in-Err-find_fault
+returns-in-Err-find_fault c =
+    decided_placed _ _ _ _ (tables c.args.starts.now c.args.homes.now c.args.parents.now) _ c.in-Ok.ensures refl _ _ _
+    c.write_tree.ensures.starts c.write_tree.ensures.homes c.write_tree.ensures.parents _ (c.into-in-Err-find_fault.ensures ∙ c.in-Err-find_fault.ensures)

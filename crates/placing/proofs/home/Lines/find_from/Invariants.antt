@@ -4,13 +4,12 @@ use Prim.Native.Nat.{suc, ◌-◌}
 use mathlib.Core.Path.{◌≡◌}
 use Rattle.guide.specs.meaning.Guide.{guide_of}
 use Rattle.placing.specs.meaning.Fitting.{least}
-use Rattle.placing.specs.method.Fitting.{fits_at}
-use Rattle.placing.specs.method.Kept.{Looked}
+use Rattle.placing.specs.method.Kept.{Looked, fits}
 use Rattle.placing.proofs.home.Lines.find_from.Given as goal
 
 abbrev pub invariant-loop-line : goal.invariant-loop-line
 invariant-loop-line l = record {
-  left : least (fits_at l.service (guide_of l.self.book.now) l.message l.at) l.line (suc (guide_of l.self.book.now).lines - l.line)
-      ≡ least (fits_at l.service (guide_of l.self.book.now) l.message l.at) l.first (suc (guide_of l.self.book.now).lines - l.first);
-  looked : Looked l.service l.message l.at l.selected;
+  left : least (fits l.segment (guide_of l.self.book.now)) l.line (suc (guide_of l.self.book.now).lines - l.line)
+      ≡ least (fits l.segment (guide_of l.self.book.now)) l.first (suc (guide_of l.self.book.now).lines - l.first);
+  looked : Looked l.segment l.selected;
 }

@@ -8,4 +8,4 @@ use Rattle.placing.proofs.home.Lines.find_home.Goals as goal
 pub returns-then-selector_element-eq0 : goal.returns-then-selector_element-eq0
 returns-then-selector_element-eq0 c =
     let first = some_number _ _ (sym c.in-Some.is ∙ c.first_of_tag.ensures) in
-    is_some_number _ _ first.1 (home_here (guide_of c.args.self.now.book.now) c.args.service c.args.message.now c.args.at _ c.tag_at-tag.ensures.0 c.tag_at-tag.ensures.1 c.args.self.now.tags.items c.args.self.now.tabled c.in-Some.first first.0 first.1 _ c.selector_element.ensures.0 c.if-selector_element-eq0.true)
+    is_some_number _ _ first.1 (home_here (guide_of c.args.self.now.book.now) c.args.segment.now c.args.self.now.tags.items c.args.self.now.tabled c.in-Some.first first.0 first.1 _ c.selector_element.ensures.0 c.if-selector_element-eq0.true)

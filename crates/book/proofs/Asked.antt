@@ -50,7 +50,11 @@ all_alike test other zero first alike = refl
 all_alike test other (suc count) first alike =
     ap₂ ◌&&◌ (alike first (omega arith) (omega arith)) (all_alike test other count (suc first) (λ i a b. alike i (omega arith) (omega arith)))
 
--- the first five numbers, and the first six, each half joined by itself
+-- three numbers; the first five; and the first six, each half joined by itself
+pub three : (test : ℕ → Bool) (first : ℕ) → all first 3 test ≡ (test first && (test (suc first) && test (suc (suc first))))
+unfolding all
+three test first = ap (λ (r : Bool). test first && (test (suc first) && r)) (last (test (suc (suc first))))
+
 pub five : (test : ℕ → Bool) → all 0 5 test ≡ (test 0 && (test 1 && (test 2 && (test 3 && test 4))))
 unfolding all
 five test = ap (λ (r : Bool). test 0 && (test 1 && (test 2 && (test 3 && r)))) (last (test 4))

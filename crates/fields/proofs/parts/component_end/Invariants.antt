@@ -1,6 +1,0 @@
--- `parts::component_end` meets its contract. The invariant, `Reading`: what has been read and what is left make the component.
-use Rattle.fields.proofs.Cutting.{Reading}
-use Rattle.fields.proofs.parts.component_end.Given as goal
-
-abbrev pub invariant-loop-at : goal.invariant-loop-at
-invariant-loop-at l = Reading l.service l.message l.from l.released l.at
