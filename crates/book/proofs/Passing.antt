@@ -2,12 +2,13 @@
 use Prim.Native.Nat.{ℕ, zero, suc, ◌+◌, ◌-◌, ◌≤◌, ◌<◌}
 use native.Mathlib.Omega.{arith}
 use mathlib.Core.Path.{◌≡◌, refl, sym, ap, subst, ◌∙◌}
-use mathlib.Core.Bool.{Bool, true, false}
+use mathlib.Core.Bool.{Bool, true, false, ◌&&◌}
 use native.Mathlib.Numerals.{add-one}
 use Rattle.std.specs.Prelude.{Option, None, Some, MatchOption}
 use Rattle.guide.specs.meaning.Guide.{Guide}
 use Rattle.book.specs.method.Run.{run, all}
-use Rattle.book.specs.meaning.GoodBook.{same_tag_rule, told_apart_rule, pair_rule}
+use Rattle.book.specs.meaning.GoodBook.{segment, same_tag_rule, told_apart_rule, pair_rule}
+use Rattle.book.specs.meaning.Rule.{◌≐◌}
 use Rattle.book.specs.method.Each.{PassedTo, home_rule}
 use Rattle.book.proofs.Rules.{all_on, all_end, when_false}
 
@@ -40,6 +41,18 @@ module _ (g : Guide) (m : ℕ) where
   all_passed : PassedTo g m m → true ≡ run (home_rule g m)
   unfolding home_rule
   all_passed i = sym (all_end test m (m - m) (omega arith)) ∙ i.same
+
+  -- a line that is no segment's has no tag to share
+  other_kind : (l : ℕ) → run (segment g m) ≡ false → run (same_tag_rule g l m) ≡ false
+  unfolding same_tag_rule
+  other_kind l e = ap (λ (t : Bool). run (segment g l) && (t && run (g.tag l ≐ g.tag m))) e ∙ go (run (segment g l))
+    where
+      go : (t : Bool) → (t && false) ≡ false
+      go true = refl
+      go false = refl
+
+  pub passed_group : 1 ≤ m → run (segment g m) ≡ false → true ≡ run (home_rule g m)
+  passed_group some e = all_passed (passed_up m some (omega arith) (λ l a b. other_kind l e))
 
   -- what a search for the first line of the tag has found
   pub passed_found : (r : Option ℕ) → 1 ≤ m

@@ -28,6 +28,10 @@ stored P xs place x within before here =
 
 -- ---- the first place of a value
 
+-- what has another value than a place, and does not lie after it, lies before it
+pub not_there : (value : ℕ → ℕ) (place first : ℕ) → first ≤ place → (value first ≡ value place → ⊥) → first < place
+not_there value place first h other = let apart : first ≡ place → ⊥ = λ e. other (ap value e) in omega arith
+
 pub first_agrees : (v w : ℕ → ℕ) (place first : ℕ) → ((i : ℕ) → i < place + 1 → v i ≡ w i) → FirstOf v place first → FirstOf w place first
 first_agrees v w place first same f =
     let most = f.at_most in

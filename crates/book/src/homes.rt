@@ -8,7 +8,7 @@ ghost use Rattle.book.specs.meaning.GoodBook.{same_tag_rule, same_place_rule, pa
 ghost use Rattle.book.specs.method.Each.{CodesWithin, Within, PassedTo, no_code_rule, home_rule, homes_rule};
 ghost use Rattle.book.specs.method.Tables.{Marked};
 
-use crate::numbering::{Codes, MOST_CODES};
+use crate::numbering::{Codes, MOST_CODES, numbers_of};
 use crate::structure;
 use guide::layout;
 
@@ -37,7 +37,7 @@ fn have_same_place(book: &[u8], line: u32, other: u32) -> bool
 // Which numbers the line's codes have.
 fn marks_of(codes: &Codes, line: u32) -> Marks
     requires { CodesWithin (guide_of codes.now.book.now) line }
-    ensures { Marked (guide_of codes.now.book.now) codes.now.numbers result line }
+    ensures { Marked (guide_of codes.now.book.now) codes.now.numbers.now result line }
 {
     let first = layout::first_code(codes.book, line);
     let count = layout::code_count(codes.book, line);
@@ -54,7 +54,7 @@ struct MarkedLine<'a> {
     codes: &'a Codes<'a>,
     line: u32,
     marks: Marks,
-    ghost marked: { Marked (guide_of codes.now.book.now) codes.now.numbers marks line },
+    ghost marked: { Marked (guide_of codes.now.book.now) codes.now.numbers.now marks line },
 }
 
 impl<'a> MarkedLine<'a> {
@@ -97,7 +97,14 @@ fn first_of_its_tag(book: &[u8], line: u32) -> Option<u32>
     requires { 1 ≤ line }
     ensures { MatchOption result (true ≡ run (home_rule (guide_of book.now) line)) (PassedTo (guide_of book.now) line) }
 {
-    (1..line).find(|earlier| have_same_tag(book, *earlier, line))
+    // What is asked of the line itself is asked once, and not in each turn.
+    if !structure::is_segment(book, line) {
+        return None;
+    }
+    let tag = layout::tag(book, line);
+    (1..line).find(|earlier| {
+        structure::is_segment(book, *earlier) && layout::tag(book, *earlier) == tag
+    })
 }
 
 fn has_one_home(codes: &Codes, line: u32) -> bool
@@ -117,6 +124,7 @@ pub fn homes_are_good(book: &[u8]) -> bool
     requires { Within (guide_of book.now) }
     ensures { result ≡ run (homes_rule (guide_of book.now)) }
 {
-    let codes = Codes::of(book);
+    let numbers = numbers_of(book);
+    let codes = Codes::of(book, &numbers);
     (1..layout::lines(book) + 1).all(|line| has_one_home(&codes, line))
 }

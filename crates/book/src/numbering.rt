@@ -10,7 +10,7 @@ use guide::layout;
 pub const MOST_CODES: usize = 8192;
 
 // For each code its number.
-type Numbers = [u32; MOST_CODES];
+pub type Numbers = [u32; MOST_CODES];
 
 fn whole_code(book: &[u8], code: u32) -> u64
     ensures { result ≡ whole_code (guide_of book.now) code }
@@ -18,20 +18,22 @@ fn whole_code(book: &[u8], code: u32) -> u64
     u64::from(layout::code_low(book, code)) + (u64::from(layout::code_high(book, code)) << 32)
 }
 
-// The first place of a place's value: that place itself, if none before has it. No loop is run more often.
+// The first place of a place's value: that place itself, if none before has it. The loop that is run most often.
 fn first_of_value(values: &[u64; MOST_CODES], place: usize) -> usize
     requires { place < 2 ^ 13 }
     ensures { FirstOf (λ (i : ℕ). get_or values.now i 0) place result }
 {
     let value = values[place];
-    values[..place]
-        .iter()
-        .position(|earlier| *earlier == value)
-        .unwrap_or(place)
+    let mut first = 0;
+    // Stays: it ends at the place itself, so a turn is one comparison; by `position` it is two, and the book check took twice as long.
+    while values[first] != value {
+        first += 1;
+    }
+    first
 }
 
 // A code's number is that of the first code with its value.
-fn numbers_of(book: &[u8]) -> Numbers
+pub fn numbers_of(book: &[u8]) -> Numbers
     requires { (guide_of book.now).codes < 2 ^ 13 }
     ensures { Numbered (guide_of book.now) result }
 {
@@ -44,30 +46,27 @@ fn numbers_of(book: &[u8]) -> Numbers
     numbers
 }
 
-// A book with its codes numbered.
-#[derive(Drop)]
+// A book with its codes numbered. The table of 32 KB is lent, since by value it would be on the stack twice.
+#[derive(Clone, Copy)]
 pub struct Codes<'a> {
     pub book: &'a [u8],
-    pub numbers: Numbers,
-    ghost numbered: { Numbered (guide_of book.now) numbers },
+    pub numbers: &'a Numbers,
+    ghost numbered: { Numbered (guide_of book.now) numbers.now },
 }
 
 impl<'a> Codes<'a> {
-    pub fn of(book: &'a [u8]) -> Codes<'a>
-        requires { (guide_of book.now).codes < 2 ^ 13 }
+    pub fn of(book: &'a [u8], numbers: &'a Numbers) -> Codes<'a>
+        requires { Numbered (guide_of book.now) numbers.now }
         ensures { result.book.now ≡ book.now }
     {
-        Codes {
-            book,
-            numbers: numbers_of(book),
-        }
+        Codes { book, numbers }
     }
 
     // The number of a code, which is a place in a table.
     #[tactic(auto, using(crate::proofs::Tables::in_table))]
     pub fn number_of(&self, code: u32) -> usize
         requires { code < (guide_of self.now.book.now).codes }
-        ensures value { result ≡ get_or self.now.numbers code 0 }
+        ensures value { result ≡ get_or self.now.numbers.now code 0 }
         ensures small { result < 2 ^ 13 }
     {
         self.numbers[code as usize] as usize

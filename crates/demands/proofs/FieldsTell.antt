@@ -20,12 +20,12 @@ use Rattle.placing.specs.meaning.Answers.{HaveHomes}
 use Rattle.reading.specs.meaning.Starts.{starts_in, starts_of}
 use Rattle.placing_laws.proofs.Homes.{home_fits}
 use Rattle.fields.specs.meaning.Number.{GoodMark}
-use Rattle.fields.specs.meaning.Fields.{LeastFault}
+use Rattle.fields.specs.meaning.Fields.{LeastFault, at_fault}
 use Rattle.fields.specs.method.Testing.{fault_at, then_first, first_fault}
 use Rattle.fields.specs.declared.fault.Fault.{Fault}
 use Rattle.std.specs.Prelude.{⊤, Result, Ok, Err}
 use Rattle.fields.specs.declared.passes.FirstFault.{FirstFault}
-use Rattle.fields.specs.method.Testing.{at_fault, first_at}
+use Rattle.fields.specs.method.Testing.{first_at}
 use Rattle.fields_laws.proofs.FieldFault.{field_fault}
 use Rattle.fields_laws.proofs.Places.{one_fault}
 use Rattle.framing.specs.meaning.Record.{place}

@@ -6,7 +6,8 @@ use mathlib.Core.Path.{◌≡◌, refl, sym, ap, ap₂, ◌∙◌}
 use mathlib.Core.List.{List, [], ◌∷◌, ◌++◌, append_assoc, append-nil}
 use Rattle.std.proofs.lemmas.List.{take-append-drop, length-append}
 use mathlib.Core.Bool.{Bool, true, false, cond, not, true≢false, false≢true}
-use mathlib.Core.Logic.{⊎_elim}
+use mathlib.Core.Logic.{⊎_elim, dite}
+use native.Mathlib.Decide.{dec_lt}
 use lib.ListN.{length, get_or, take, drop, drop_of_length-le, length-drop}
 use lib.Seq.{drop-cons, take-suc, take_all, drop-drop}
 use Rattle.reading.specs.meaning.Service.{must_release}
@@ -17,7 +18,7 @@ use Rattle.reading.specs.declared.bytes.Kind.TheVariants.{Component, Element, Te
 use Rattle.reading.proofs.Seeking.{unmarked}
 use Rattle.fields.specs.method.Parts.{Raw, Cut, pieces, add_byte, add_component, add_element, cut_by, cut, components_in, further_in, has_bytes, any_bytes}
 use Rattle.std.proofs.lemmas.List.{take_rest}
-use Rattle.fields.specs.method.Kept.{is_release, is_mark, same_kind, opens, elements_in, behind_component, behind_element, further_behind, Reads, Ends}
+use Rattle.fields.specs.method.Kept.{is_release, is_mark, same_kind, opens, elements_in, behind_component, behind_element, further_behind, Reads, Tail, Ends}
 
 -- ---- one byte
 
@@ -170,15 +171,51 @@ module _ (s : Service) (bs : List ℕ) where
         ⊎_elim (λ p. reading_data (kind_of s (get_or bs at 0)) refl i false (ap is_mark p) (ap is_release p))
         (λ p. reading_data (kind_of s (get_or bs at 0)) refl i false (ap is_mark p) (ap is_release p)) (unmarked s (get_or bs at 0) t)
 
+  -- a release and the byte behind it, which may be missing
+  pub reading_pair : (at : ℕ) (h : at < length bs) (kind : Kind) → kind ≡ kind_of s (get_or bs at 0) → is_mark kind ≡ false → is_release kind ≡ true
+      → Reading s bs false at → Reading s bs false (at + 1 + 1)
+  reading_pair at h kind e m k i =
+      let on : Reading s bs true (at + 1) = reading_data at h kind e i true m k in
+      dite (dec_lt (at + 1) (length bs)) (λ b. reading_released (at + 1) b on)
+      (λ n.
+      let out : length bs ≤ at + 1 = omega arith in
+      let beyond : length bs ≤ at + 1 + 1 = omega arith in
+      record {
+        joins =
+            on.joins ∙ ap (prepend (take (at + 1) bs)) (cut_out s bs (at + 1) true out ∙ sym (cut_out s bs (at + 1 + 1) false beyond))
+            ∙ ap (λ (l : List ℕ). prepend l (cut s false (drop (at + 1 + 1) bs))) (take_all (at + 1) bs out ∙ sym (take_all (at + 1 + 1) bs beyond));
+      })
+
   pub reading_begin : Reading s bs false 0
   reading_begin = record { joins = sym (prepend_none (cut s false bs)) }
 
   pub reading_done : (at : ℕ) (r : Bool) → length bs ≤ at → Reading s bs r at → Reads s bs bs []
   reading_done at r h i = ends at r i (at_end s bs at r h) bs [] (sym (take_all at bs h)) (sym (drop_of_length-le bs h))
 
+-- ---- what is left behind some bytes
+
+pub tail_here : (bs : List ℕ) → Tail bs bs
+tail_here bs = record { passed = []; whole = refl }
+
+pub tail_on : (bs mid behind : List ℕ) → Tail bs mid → Tail mid behind → Tail bs behind
+tail_on bs mid behind a b =
+    record { passed = a.passed ++ b.passed; whole = a.whole ∙ ap (λ (l : List ℕ). a.passed ++ l) b.whole ∙ sym (append_assoc a.passed b.passed behind) }
+
+pub tail_next : (behind next : List ℕ) → next ≡ drop 1 behind → Tail behind next
+tail_next behind next e = record { passed = take 1 behind; whole = sym (take-append-drop 1 behind) ∙ ap (λ (l : List ℕ). take 1 behind ++ l) (sym e) }
+
+pub tail_read : (s : Service) (bs part behind : List ℕ) → Reads s bs part behind → Tail bs behind
+tail_read s bs part behind r = record { passed = part; whole = r.whole }
+
+-- a component further on
+pub tail_further : (s : Service) (bs behind next part last : List ℕ) → Tail bs behind → next ≡ drop 1 behind → Reads s next part last → Tail bs last
+tail_further s bs behind next part last t e r = tail_on bs next last (tail_on bs behind next t (tail_next behind next e)) (tail_read s next part last r)
+
+pub tail_shorter : (bs behind : List ℕ) → Tail bs behind → length behind ≤ length bs
+tail_shorter bs behind t = let n : length bs ≡ length t.passed + length behind = ap length t.whole ∙ length-append t.passed behind in omega arith
+
 pub behind_shorter : (s : Service) (bs part behind : List ℕ) → Reads s bs part behind → length behind ≤ length bs
-behind_shorter s bs part behind r =
-    let n : length bs ≡ length part + length behind = ap length r.whole ∙ length-append part behind in omega arith
+behind_shorter s bs part behind r = tail_shorter bs behind (tail_read s bs part behind r)
 
 -- from a component to the next one less is left
 pub next_smaller : (s : Service) (bs part behind : List ℕ) → Reads s bs part behind → (next : List ℕ) → (opens Component s behind ≡ true) × (next ≡ drop 1 behind) → length next < length bs
@@ -189,11 +226,11 @@ next_smaller s bs part behind r next o = let a = behind_shorter s bs part behind
 module _ (s : Service) (bs : List ℕ) where
   -- the components before `behind` are passed: the further elements are those that stand there
   pub record Skipping (behind : List ℕ) : Type 0 where
-    pub shorter : length behind ≤ length bs
+    pub tail : Tail bs behind
     pub further : further_in (cut s false bs) ≡ further_behind s behind
 
   pub skipping_begin : (part behind : List ℕ) → Reads s bs part behind → Skipping behind
-  skipping_begin part behind r = record { shorter = behind_shorter s bs part behind r; further = ap further_in r.cuts }
+  skipping_begin part behind r = record { tail = tail_read s bs part behind r; further = ap further_in r.cuts }
 
   module _ (behind : List ℕ) (i : Skipping behind) where
     past : (o : Bool) → opens Component s behind ≡ o → further_in (cut s false bs) ≡ cond o (further_in (cut s false (drop 1 behind))) (behind_element s behind)
@@ -201,14 +238,13 @@ module _ (s : Service) (bs : List ℕ) where
 
     pub skipping_on : (next part last : List ℕ) → (opens Component s behind ≡ true) × (next ≡ drop 1 behind) → Reads s next part last → Skipping last
     skipping_on next part last o r =
-        let a = i.shorter in let b = behind_shorter s next part last r in let n = next_shorter s Component behind next o in
         record {
-          shorter = omega arith;
+          tail = tail_further s bs behind next part last i.tail o.1 r;
           further = past true o.0 ∙ ap (λ (l : List ℕ). further_in (cut s false l)) (sym o.1) ∙ ap further_in r.cuts;
         }
 
     pub skipping_done : opens Component s behind ≡ false → Ends s bs behind
-    skipping_done o = record { shorter = i.shorter; further = past false o }
+    skipping_done o = record { tail = i.tail; further = past false o }
 
 -- ---- has an element bytes?
 

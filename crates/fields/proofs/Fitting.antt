@@ -1,14 +1,16 @@
 -- What the functions that test one field ask of its bytes: whether there are any, and how many count.
-use Prim.Native.Nat.{ℕ, suc, ◌+◌, ◌≤◌, ◌<◌}
+use Prim.Native.Nat.{ℕ, suc, ◌+◌, ◌-◌, ◌≤◌, ◌<◌}
 use native.Mathlib.Omega.{arith}
+use native.Mathlib.Decide.{dec_lt}
 use mathlib.Core.Path.{◌≡◌, refl, sym, ap, ap₂, ◌∙◌}
 use mathlib.Core.List.{[], ◌∷◌}
+use mathlib.Core.Logic.{dite}
 use mathlib.Core.Bool.{Bool, true, false, cond, not, ◌&&◌, ◌||◌}
 use lib.Dec.{eqb, leb}
 use native.Mathlib.Numerals.{add-one}
-use lib.ListN.{length, get_or, drop, drop_of_length-le}
+use lib.ListN.{length, get_or, drop, drop_of_length-le, length-drop}
 use lib.Seq.{drop-cons}
-use borrow.Author.Tests.{le-leb}
+use borrow.Author.Tests.{eq-eqb, ne_eqb, le-leb}
 use Rattle.guide.specs.meaning.Guide.{Guide}
 use Rattle.reading.specs.meaning.Component.{value_from, kept_or_released, value_of}
 use Rattle.reading.specs.declared.service.Service.{Service}
@@ -63,33 +65,52 @@ module _ (s : Service) where
       go true n p q = omega arith
       go false n p q = omega arith
 
-  -- so many bytes of the value have been counted; is the next byte released?
-  pub record Measuring (x : Raw) (released : Bool) (count at : ℕ) : Type 0 where
-    pub few : count ≤ at
-    pub same : count + length (value_from s released (drop at x)) ≡ length (value_of s x)
+  -- of the bytes so far so many release the next, and the others stand in the value; a byte that is released has been passed with its release
+  pub record Measuring (x : Raw) (releases at : ℕ) : Type 0 where
+    pub few : releases ≤ at
+    pub within : releases ≤ length x
+    pub same : length x + length (value_from s false (drop at x)) ≡ releases + length (value_of s x) + length (drop at x)
 
   module _ (x : Raw) where
-    module _ (released : Bool) (count at : ℕ) (h : at < length x) (i : Measuring x released count at) where
-      by : (t : Bool) → (not released && eqb (get_or x at 0) s.release) ≡ t
-          → length (value_from s released (drop at x)) ≡ cond t (length (value_from s true (drop (at + 1) x))) (suc (length (value_from s false (drop (at + 1) x))))
-      by t e =
-          ap (λ (l : Raw). length (value_from s released l)) (drop-cons x at 0 h) ∙ value_next released (get_or x at 0) (drop (suc at) x)
-          ∙ ap₂ (λ (u : Bool) (n : ℕ). cond u (length (value_from s true (drop n x))) (suc (length (value_from s false (drop n x))))) e (sym (add-one at))
+    abbrev left : Bool → ℕ → ℕ
+    left released at = length (value_from s released (drop at x))
 
-      measuring_releases : (not released && eqb (get_or x at 0) s.release) ≡ true → Measuring x true count (at + 1)
-      measuring_releases e = let n = by true e in let f = i.few in let g = i.same in record { few = omega arith; same = omega arith }
+    next-left : (released : Bool) (at : ℕ) → at < length x → (t : Bool) → (not released && eqb (get_or x at 0) s.release) ≡ t
+        → left released at ≡ cond t (left true (at + 1)) (suc (left false (at + 1)))
+    next-left released at h t e =
+        ap (λ (l : Raw). length (value_from s released l)) (drop-cons x at 0 h) ∙ value_next released (get_or x at 0) (drop (suc at) x)
+        ∙ ap₂ (λ (u : Bool) (n : ℕ). cond u (left true n) (suc (left false n))) e (sym (add-one at))
 
-      measuring_counts : (not released && eqb (get_or x at 0) s.release) ≡ false → Measuring x false (count + 1) (at + 1)
-      measuring_counts e = let n = by false e in let f = i.few in let g = i.same in record { few = omega arith; same = omega arith }
+    none-left : (released : Bool) (at : ℕ) → length x ≤ at → left released at ≡ 0
+    none-left released at h = ap (λ (l : Raw). length (value_from s released l)) (drop_of_length-le x h) ∙ value_none released
 
-      pub measuring_on : (is : Bool) (n : ℕ) → is ≡ (not released && eqb (get_or x at 0) s.release) → n ≡ cond is count (count + 1) → Measuring x is n (at + 1)
-      measuring_on true n e k = rw k (measuring_releases (sym e))
-      measuring_on false n e k = rw k (measuring_counts (sym e))
+    pub measuring_begin : Measuring x 0 0
+    measuring_begin = record { few = omega arith; within = omega arith; same = omega arith }
 
-    pub measuring_done : (released : Bool) (count at : ℕ) → length x ≤ at → Measuring x released count at → count ≡ length (value_of s x)
-    measuring_done released count at h i =
-        let n : length (value_from s released (drop at x)) ≡ 0 = ap (λ (l : Raw). length (value_from s released l)) (drop_of_length-le x h) ∙ value_none released in
-        let g = i.same in omega arith
+    pub measuring_done : (releases at : ℕ) → length x ≤ at → Measuring x releases at → length x - releases ≡ length (value_of s x)
+    measuring_done releases at h i =
+        let n = none-left false at h in let d = length-drop at x in let g = i.same in omega arith
+
+    module _ (releases at : ℕ) (h : at < length x) (i : Measuring x releases at) where
+      -- a release and the byte behind it, which may be missing
+      pub measuring_pair : get_or x at 0 ≡ s.release → Measuring x (releases + 1) (at + 1 + 1)
+      measuring_pair e =
+          let n = next-left false at h true (eq-eqb (get_or x at 0) s.release e) in
+          let d = length-drop at x in let d2 = length-drop (at + 1 + 1) x in
+          let f = i.few in let g = i.same in
+          record {
+            few = omega arith;
+            within = omega arith;
+            same = dite (dec_lt (at + 1) (length x)) (λ b. let m = next-left true (at + 1) b false refl in omega arith)
+                (λ b. let m = none-left true (at + 1) (omega arith) in let k = none-left false (at + 1 + 1) (omega arith) in omega arith);
+          }
+
+      pub measuring_plain : (get_or x at 0 ≡ s.release → ⊥) → Measuring x releases (at + 1)
+      measuring_plain e =
+          let n = next-left false at h false (ne_eqb (get_or x at 0) s.release e) in
+          let d = length-drop at x in let d1 = length-drop (at + 1) x in
+          let f = i.few in let w = i.within in let g = i.same in
+          record { few = omega arith; within = omega arith; same = omega arith }
 
 module _ (g : Guide) (f : ℕ) (s : Service) (x : Raw) (l : ℕ) (e : l ≡ g.longest f) where
   pub short_text : length x ≤ l → true ≡ leb (length (value_of s x)) (g.longest f)
@@ -100,6 +121,6 @@ module _ (g : Guide) (f : ℕ) (s : Service) (x : Raw) (l : ℕ) (e : l ≡ g.lo
 
 -- ---- the steps of each function
 
-pub ruleset measuring = (measuring_on, measuring_done)
+pub ruleset measuring = (measuring_begin, measuring_done)
 
 pub ruleset bytes = (bytes_none, bytes_some)

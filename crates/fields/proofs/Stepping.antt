@@ -16,12 +16,13 @@ use Rattle.guide.specs.meaning.View.{numbers_from}
 use Rattle.reading.specs.declared.service.Service.{Service}
 use Rattle.reading.specs.declared.bytes.Kind.TheVariants.{Component, Element}
 use Rattle.fields.specs.method.Parts.{Raw, Cut, cut, components_in, further_in}
-use Rattle.fields.specs.method.Testing.{is_missing, is_broken, names_first, Tested, broken, kept, then_test, test_unnamed, test_component, test_absent, test_components, test_element, at_fault, then_fault, test_rest, test_elements, fault_at, Near, InReach}
-use Rattle.fields.specs.method.Kept.{Ends, opens, elements_in, behind_component, behind_element, Reads, fields_from, fields_in}
+use Rattle.fields.specs.meaning.Fields.{at_fault}
+use Rattle.fields.specs.method.Testing.{is_missing, is_broken, names_first, Tested, broken, kept, then_test, test_unnamed, test_component, test_absent, test_components, test_element, then_fault, test_rest, test_elements, fault_at, Near, InReach}
+use Rattle.fields.specs.method.Kept.{Ends, opens, elements_in, behind_component, behind_element, Reads, Tail, Within, fields_from, fields_in}
 use Rattle.std.specs.Prelude.{Result, Ok, Err}
 use Rattle.std.specs.declared.ops.Range.{Range}
 use Rattle.fields.specs.declared.fault.Fault.{Fault}
-use Rattle.fields.proofs.Cutting.{split, next_shorter, behind_shorter}
+use Rattle.fields.proofs.Cutting.{split, next_shorter, behind_shorter, tail_here, tail_on, tail_next, tail_read, tail_shorter}
 use Rattle.fields.proofs.Fitting.{bytes_none, bytes_some}
 
 -- ---- the fields that are left
@@ -53,6 +54,17 @@ module _ (g : Guide) (e c f last : ℕ) where
   -- a field that names the component is there
   pub names_some : names_first g e c (fields_from f last) ≡ true → f < last
   names_some h = dite (dec_lt f last) (λ i. i) (λ n. absurd (false≢true (names_out (let k : last ≤ f = omega arith in k) ∙ h)))
+
+-- ---- none is passed beyond the last
+
+pub within_all : (fields : Range ℕ) → Within fields fields
+within_all fields h = (h, refl)
+
+pub within_on : (fields left last : Range ℕ) → Within fields left → Within left last → Within fields last
+within_on fields left last v w h = let a = v h in let b = w a.0 in (b.0, b.1 ∙ a.1)
+
+pub within_named : (g : Guide) (e c : ℕ) (fields : Range ℕ) → names_first g e c (fields_in fields) ≡ true → Within fields (record { start = fields.start + 1; end = fields.end })
+within_named g e c fields h i = let k = names_some g e c fields.start fields.end h in (omega arith, refl)
 
 -- ---- one component
 
@@ -145,8 +157,13 @@ module _ (s : Service) (g : Guide) (bs : List ℕ) (some : Bool) (e : ℕ) (fiel
   pub record Going (c : ℕ) (rest : List ℕ) (left : Range ℕ) : Type 0 where
     pub first : 1 ≤ c
     pub counted : c + length rest ≤ length bs + 1
+    pub tail : Tail bs rest
+    pub within : Within fields left
     pub same : test_components s g some e c (components_in (cut s false rest)) (fields_in left) ≡ all_components
     pub further : further_in (cut s false rest) ≡ further_in (cut s false bs)
+
+  pub going_begin : Going 1 bs fields
+  going_begin = record { first = omega arith; counted = omega arith; tail = tail_here bs; within = within_all fields; same = refl; further = refl }
 
   module _ (c : ℕ) (rest part behind : List ℕ) (left : Range ℕ) (i : Going c rest left) (r : Reads s rest part behind) where
     -- one component, and what stands behind it
@@ -163,7 +180,7 @@ module _ (s : Service) (g : Guide) (bs : List ℕ) (some : Bool) (e : ℕ) (fiel
           (w.0, omega arith),
         )
 
-    module _ (last : Range ℕ) (t : test_component s g some e c part (fields_in left) ≡ kept (fields_in last)) where
+    module _ (last : Range ℕ) (w : Within left last) (t : test_component s g some e c part (fields_in left) ≡ kept (fields_in last)) where
       kept_test : (o : Bool) → opens Component s behind ≡ o
           → test_components s g some e c (components_in (cut s false rest)) (fields_in left)
           ≡ test_components s g some e (suc c) (cond o (components_in (cut s false (drop 1 behind))) []) (fields_in last)
@@ -180,6 +197,8 @@ module _ (s : Service) (g : Guide) (bs : List ℕ) (some : Bool) (e : ℕ) (fiel
           record {
             first = omega arith;
             counted = omega arith;
+            tail = tail_on bs behind next (tail_on bs rest behind i.tail (tail_read s rest part behind r)) (tail_next behind next o.1);
+            within = within_on fields left last i.within w;
             same =
                 ap₂ (λ (x : ℕ) (l : List ℕ). test_components s g some e x (components_in (cut s false l)) (fields_in last)) (add-one c) o.1
                 ∙ sym (kept_test true o.0) ∙ i.same;
@@ -190,10 +209,9 @@ module _ (s : Service) (g : Guide) (bs : List ℕ) (some : Bool) (e : ℕ) (fiel
       unfolding test_components
       going_closed k = sym i.same ∙ kept_test false k
 
-      pub going_ends : opens Component s behind ≡ false → Ends s bs behind
+      pub going_ends : opens Component s behind ≡ false → Ends s bs behind × Within fields last
       going_ends k =
-          let a = behind_shorter s rest part behind r in let b = i.first in let d = i.counted in
-          record { shorter = omega arith; further = sym i.further ∙ kept_further false k }
+          (record { tail = tail_on bs rest behind i.tail (tail_read s rest part behind r); further = sym i.further ∙ kept_further false k }, within_on fields left last i.within w)
 
 -- a fault among the first fields is near whatever the message is
 pub near_more : (n : ℕ) (r : Result (Unit {0}) Fault) → InReach 0 r → InReach n r
@@ -212,7 +230,7 @@ module _ (s : Service) (g : Guide) (bs : List ℕ) (at line : ℕ) where
       → rest ≡ drop (at + 3) bs → Ends s rest behind → Passing 0 behind left
   unfolding fault_at
   passing_begin rest behind left i k d h =
-      let m = h.shorter in let n : length rest ≡ length bs - (at + 3) = ap length d ∙ length-drop (at + 3) bs in
+      let m = tail_shorter rest behind h.tail in let n : length rest ≡ length bs - (at + 3) = ap length d ∙ length-drop (at + 3) bs in
       record {
         counted = omega arith;
         same =
@@ -251,7 +269,7 @@ module _ (s : Service) (g : Guide) (bs : List ℕ) (at line : ℕ) where
       pub passing_on : (last : Range ℕ) (closed : List ℕ) → test_element s g (e + 1) (components_in (cut s false next)) (fields_in left) ≡ kept (fields_in last)
           → Ends s next closed → Passing (e + 1) closed last
       passing_on last closed t w =
-          let a = w.shorter in let n = i.counted in let m = next_shorter s Element behind next o in
+          let a = tail_shorter next closed w.tail in let n = i.counted in let m = next_shorter s Element behind next o in
           record {
             counted = omega arith;
             same =
@@ -263,12 +281,12 @@ module _ (s : Service) (g : Guide) (bs : List ℕ) (at line : ℕ) where
 
 pub ruleset naming = (names_out, names_other, names_by)
 
-pub ruleset one_component = (names_some, named_broken, named_kept, unnamed_full, unnamed_empty)
+pub ruleset one_component = (names_some, named_broken, named_kept, unnamed_full, unnamed_empty, within_named, within_all)
 
 pub ruleset absent = (absent_out, absent_other, absent_missing, absent_on)
 
 pub ruleset rest = (rest_missing, rest_on, rest_out)
 
-pub ruleset going = (going_broken, going_closed, going_ends)
+pub ruleset going = (going_begin, going_broken, going_closed, going_ends)
 
 pub ruleset passing = (passing_broken, passing_done, near_more)

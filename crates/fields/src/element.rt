@@ -42,7 +42,7 @@ fn test_component(
     left: Range<u32>,
 ) -> Result<Range<u32>, Fault>
     ensures value { test_component service (guide_of book.now) some element component part.now (fields_in left) ≡ tested_by result }
-    ensures within { FaultWithin element component result }
+    ensures within { FaultWithin element component left result }
 {
     let fault = Fault { element, component };
     if names_first(book, element, component, &left) {
@@ -67,7 +67,7 @@ fn test_absent(
     left: Range<u32>,
 ) -> Result<Range<u32>, Fault>
     ensures value { test_absent (guide_of book.now) some element (fields_in left) ≡ tested_by result }
-    ensures within { FaultWithin element 255 result }
+    ensures within { FaultWithin element 255 left result }
 {
     let last = left.end;
     for field in left {
@@ -93,7 +93,7 @@ fn test_components<'a>(
     mut left: Range<u32>,
 ) -> Result<Closed<'a>, Fault>
     ensures value { test_components service (guide_of book.now) some element 1 (components_in (cut service false rest.now)) (fields_in left) ≡ when_closed result (λ left. test_absent (guide_of book.now) some element (fields_in left)) }
-    ensures closes { ClosesBy service rest.now element result }
+    ensures closes { ClosesBy service rest.now element left result }
 {
     let mut component: usize = 1;
     // Stays: it goes from mark to mark, and how many components there are shows only at the last.
@@ -108,6 +108,7 @@ fn test_components<'a>(
     }
 }
 
+#[tactic(auto, using(crate::proofs::Stepping::within_on))]
 pub fn test_element<'a>(
     service: Service,
     rest: &'a [u8],
@@ -116,7 +117,7 @@ pub fn test_element<'a>(
     left: Range<u32>,
 ) -> Result<Closed<'a>, Fault>
     ensures value { test_element service (guide_of book.now) element (components_in (cut service false rest.now)) (fields_in left) ≡ when_closed result (λ left. kept (fields_in left)) }
-    ensures closes { ClosesBy service rest.now element result }
+    ensures closes { ClosesBy service rest.now element left result }
 {
     let some = parts::has_bytes(service, rest);
     let closed = test_components(service, rest, book, some, element, left)?;

@@ -14,18 +14,18 @@ use reading::service::Service;
 pub fn split_component(service: Service, rest: &[u8]) -> (&[u8], &[u8])
     ensures { Reads service rest.now result.0.now result.1.now }
 {
-    let mut released = false;
-    for at in 0..rest.len() {
+    let mut at = 0;
+    // Stays: a byte that is released is passed with its release, two at a time; to carry a flag instead costs every byte.
+    while at < rest.len() {
         let byte = rest[at];
-        if released {
-            released = false;
-        } else if bytes::must_release(service, byte) {
+        if bytes::must_release(service, byte) {
             match bytes::kind_of(service, byte) {
                 Kind::Component | Kind::Element | Kind::Terminator => return rest.split_at(at),
-                Kind::Release => released = true,
+                Kind::Release => at += 1,
                 Kind::Plain | Kind::Other => {}
             }
         }
+        at += 1;
     }
     (rest, &[])
 }
@@ -35,15 +35,17 @@ pub fn split_component(service: Service, rest: &[u8]) -> (&[u8], &[u8])
 pub fn value_length(service: Service, part: &[u8]) -> usize
     ensures { result ≡ length (value_of service part.now) }
 {
-    let mut length: usize = 0;
-    let mut released = false;
-    for byte in part {
-        released = !released && *byte == service.release;
-        if !released {
-            length += 1;
+    let mut releases = 0;
+    let mut at = 0;
+    // Stays: a byte that is released is passed with its release, two at a time, as above.
+    while at < part.len() {
+        if part[at] == service.release {
+            releases += 1;
+            at += 1;
         }
+        at += 1;
     }
-    length
+    part.len() - releases
 }
 
 // What stands behind such a mark, if one is at the front: it opens another component of the element, or another element.

@@ -20,9 +20,9 @@ use Rattle.reading_laws.proofs.Services.{good_standard}
 use Rattle.reading.specs.meaning.Digit.{is_digit}
 use Rattle.fields.specs.meaning.Number.{figures}
 use Rattle.fields.specs.method.Number.{starts_digit, after_digits, is_none, are_digits, ends_number, without_sign, is_number}
-use Rattle.fields.specs.meaning.Fields.{LeastFault}
+use Rattle.fields.specs.meaning.Fields.{LeastFault, at_fault}
 use Rattle.fields.specs.method.Parts.{cut, has_bytes, any_bytes}
-use Rattle.fields.specs.method.Testing.{has_code, fits_text, fits_number, fits, is_missing, is_broken, test_component, test_absent, test_components, test_rest, test_elements, at_fault, fault_at, first_at, first_fault}
+use Rattle.fields.specs.method.Testing.{has_code, fits_text, fits_number, fits, is_missing, is_broken, test_component, test_absent, test_components, test_rest, test_elements, fault_at, first_at, first_fault}
 use Rattle.std.specs.Prelude.{Result, Ok}
 use Rattle.fields.specs.declared.fault.Fault.{Fault}
 use Rattle.fields.specs.declared.passes.FirstFault.{FirstFault}

@@ -12,12 +12,12 @@ use borrow.Author.Tests.{eqb-true, eqb-false}
 use Rattle.guide.specs.meaning.Guide.{Guide}
 use Rattle.guide.specs.meaning.View.{Field, field_of}
 use Rattle.reading.specs.declared.service.Service.{Service}
-use Rattle.fields.specs.meaning.Fields.{Values, In, HasBytes, Faulty, Before}
+use Rattle.fields.specs.meaning.Fields.{Values, In, HasBytes, Faulty, Before, at_fault}
 use Rattle.fields.specs.meaning.Fields.In.{here, there}
 use Rattle.fields.specs.meaning.Fields.Faulty.{named, unnamed}
 use Rattle.fields.specs.meaning.Fields.Before.{sooner, beside}
 use Rattle.fields.specs.method.Parts.{Raw, has_bytes, any_bytes}
-use Rattle.fields.specs.method.Testing.{is_missing, is_broken, Tested, broken, kept, then_test, test_component, test_absent, test_components, then_fault, test_rest, test_elements, at_fault}
+use Rattle.fields.specs.method.Testing.{is_missing, is_broken, Tested, broken, kept, then_test, test_component, test_absent, test_components, then_fault, test_rest, test_elements}
 use Rattle.std.specs.Prelude.{Result}
 use Rattle.fields.specs.declared.fault.Fault.{Fault}
 use Rattle.fields_laws.proofs.Pieces.{raw_of}

@@ -8,12 +8,11 @@ use mathlib.Core.List.{List, [], ◌∷◌}
 use mathlib.Core.Logic.{dite}
 use Rattle.guide.specs.meaning.View.{Field}
 use Rattle.reading.specs.declared.service.Service.{Service}
-use Rattle.fields.specs.meaning.Fields.{Values, In, Breaks, Faulty, Before, LeastFault}
+use Rattle.fields.specs.meaning.Fields.{Values, In, Breaks, Faulty, Before, LeastFault, at_fault}
 use Rattle.fields.specs.meaning.Fields.In.{here, there}
 use Rattle.fields.specs.meaning.Fields.Faulty.{named, unnamed}
 use Rattle.fields.specs.meaning.Fields.Before.{sooner, beside}
 use Rattle.std.specs.Prelude.{Result, Ok, Err}
-use Rattle.fields.specs.method.Testing.{at_fault}
 use Rattle.fields.specs.declared.fault.Fault.{Fault}
 
 -- x, y stands at e, c or after it

@@ -34,7 +34,7 @@ pub fn read_piece(
     ensures starts_left { starts.new ≡ starts_after_piece service reading.old piece.now starts.old }
     ensures entries_left { entries.new ≡ record_after_piece reading.old entries.old }
 {
-    let Ok(mut numbers) = Numbers::try_from(&*reading) else {
+    let Ok(numbers) = Numbers::try_from(&*reading) else {
         return Err(NoState);
     };
     let progress = Progress::from(numbers);
@@ -44,8 +44,7 @@ pub fn read_piece(
         return Ok(Some(verdict));
     }
     let next = piece::read_on(service, progress, piece, starts);
-    numbers::put_progress(&mut numbers, next);
-    reading.copy_from_slice(&numbers);
+    numbers::put_progress(reading, next);
     Ok(None)
 }
 

@@ -9,8 +9,6 @@ use reading::machine::State;
 // Seven are used; the eighth stays as it is.
 pub type Numbers = [usize; 8];
 
-const USED: usize = 7;
-
 // Stays: no `state as usize`: the numbers are the caller's, and two states with one number are refused by a law of them (kept_told), and not by the spelling.
 fn state_number(state: State) -> usize
     ensures { result ≡ state_number state }
@@ -63,11 +61,11 @@ impl From<Numbers> for Progress {
     }
 }
 
-#[tactic(auto, unfolding(slices::specs::meaning::Lent::as_many_as_fit))]
-pub fn put_progress(numbers: &mut Numbers, progress: Progress)
+// As many as fit.
+pub fn put_progress(numbers: &mut [usize], progress: Progress)
     ensures { numbers.new ≡ as_many_as_fit (numbers_of progress) numbers.old }
 {
-    numbers[..USED].copy_from_slice(&[
+    let entries = [
         usize::from(progress.ended),
         state_number(progress.state),
         progress.bytes,
@@ -75,7 +73,9 @@ pub fn put_progress(numbers: &mut Numbers, progress: Progress)
         progress.segments,
         progress.start,
         usize::from(progress.lacking),
-    ]);
+    ];
+    let fitting = entries.len().min(numbers.len());
+    numbers[..fitting].copy_from_slice(&entries[..fitting]);
 }
 
 // The message has ended. Nothing else changes, and where it had ended before nothing does.

@@ -153,7 +153,7 @@ impl<'a> Lines<'a> {
         ensures { result ≡ or_none (least (fits segment.now (guide_of self.now.book.now)) first (suc (guide_of self.now.book.now).lines - first)) }
     {
         let mut selected = None;
-        for line in first..=layout::lines(self.book) {
+        for line in first..layout::lines(self.book) + 1 {
             if self.tag_of(line) == segment.tag {
                 selected = segment.select(self.book, line, selected);
                 if segment.is_selected(self.book, line, selected) {

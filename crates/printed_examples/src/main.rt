@@ -54,23 +54,70 @@ fn write_value(rt: &impl Print, raw: &[u8]) -> io::Result<()> {
     Ok(())
 }
 
-// A line for every component of the segment that starts at `at`, as `  2.1 ORDRSP`. The byte behind one says whether another
-// follows in the element, or an element, or nothing.
-fn write_components(rt: &impl Print, text: &[u8], at: usize, indent: &str) -> io::Result<()> {
-    let service = Service::standard();
-    for element in 1.. {
-        for component in 1.. {
-            let value = lookup::find_component(service, text, at, element, component);
-            print!(rt; "{indent}{element}.{component} ")?;
-            write_value(rt, value)?;
-            println!(rt;)?;
-            let span = lookup::component_span(service, text, at, element, component);
-            match text.get(span.end) {
-                Some(b':') => {}
-                Some(b'+') => break,
-                _ => return Ok(()),
-            }
+// The components of the segment that starts at `at`, one behind the other. The byte behind one, at `mark`, says whether another follows
+// in the element, or an element, or nothing.
+#[derive(Drop)]
+struct Components<'a> {
+    text: &'a [u8],
+    at: usize,
+    mark: usize,
+    element: usize,
+    component: usize,
+}
+
+impl<'a> Components<'a> {
+    fn of(text: &'a [u8], at: usize, mark: usize) -> Components<'a> {
+        Components {
+            text,
+            at,
+            mark,
+            element: 0,
+            component: 0,
         }
+    }
+}
+
+impl<'a> Iterator for Components<'a> {
+    type Item = (usize, usize, &'a [u8]);
+
+    ghost remaining = { λ s. at_most (length s.text.now - s.mark) };
+
+    fn next(&mut self) -> Option<(usize, usize, &'a [u8])> {
+        let (element, component) = match self.text.get(self.mark) {
+            Some(b'+') => (self.element.saturating_add(1), 1),
+            Some(b':') => (self.element, self.component.saturating_add(1)),
+            _ => return None,
+        };
+        let span = lookup::component_span(
+            Service::standard(),
+            self.text,
+            self.at,
+            element,
+            component,
+        );
+        let value = self.text.get(span.start..span.end)?;
+        if span.end <= self.mark {
+            return None;
+        }
+        self.mark = span.end;
+        self.element = element;
+        self.component = component;
+        Some((element, component, value))
+    }
+}
+
+// A line for each, as `  2.1 ORDRSP`.
+fn write_components(
+    rt: &impl Print,
+    text: &[u8],
+    at: usize,
+    from: usize,
+    indent: &str,
+) -> io::Result<()> {
+    for (element, component, value) in Components::of(text, at, from) {
+        print!(rt; "{indent}{element}.{component} ")?;
+        write_value(rt, value)?;
+        println!(rt;)?;
     }
     Ok(())
 }
@@ -83,10 +130,7 @@ fn write_segment(rt: &impl Print, text: &[u8], at: usize, indent: &str) -> io::R
     let from = at + 3;
     rt.write_all(&text[at..from])?;
     println!(rt;)?;
-    if text.get(from) == Some(&b'+') {
-        write_components(rt, text, at, indent)?;
-    }
-    Ok(())
+    write_components(rt, text, at, from, indent)
 }
 
 fn write_example(rt: &impl Print, number: usize, text: &[u8]) -> io::Result<()> {

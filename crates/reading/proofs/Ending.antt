@@ -13,7 +13,7 @@ use borrow.Author.Tests.{ltb-true, ltb-false, lt-ltb, le-ltb}
 use Rattle.std.specs.Prelude.{Option, Some, None}
 use Rattle.reading.specs.meaning.Service.{is_data, is_tag_byte, must_release}
 use Rattle.reading.specs.method.Machine.{pick, kind_of, after_tag, after_tagged, after_opened, after_parted, after_inside, after_released, stepped, is_text, is_start, is_dead, end_on, segment_end}
-use Rattle.reading.specs.method.Kept.{TagOrNone, Passed, PassedOrEnd, held_by, opened_by, marked_by}
+use Rattle.reading.specs.method.Kept.{TagOrNone, Passed, held_by, opened_by, marked_by, or_length}
 use Rattle.reading.specs.declared.service.Service.{Service}
 use Rattle.reading.specs.declared.bytes.Kind.{Kind}
 use Rattle.reading.specs.declared.bytes.Kind.TheVariants.{Component, Element, Terminator, Release, Plain, Other}
@@ -227,25 +227,23 @@ module _ (s : Service) (bs : List ℕ) where
             ap (λ (n : ℕ). eqb (get_or bs n 0) s.component) k
             ∙ sym (ap (λ (y : Bool). pick y (eqb (get_or bs (at + 1 - 1) 0) s.component) x) (lt-ltb from (at + 1) l))
 
-    pub passed_out : (at : ℕ) → length bs ≤ at → Passed s bs from at → PassedOrEnd s bs from None
-    passed_out at h p opened parted = p.same opened parted ∙ end_out (held_by (opened_by from at opened) (marked_by s bs from at parted)) at h
-
   -- ---- what ends a text
 
   module _ (from : ℕ) where
-    abbrev wanted : Option ℕ
-    wanted = end_on s Opened from (drop from bs)
+    abbrev wanted : ℕ
+    wanted = or_length bs (end_on s Opened from (drop from bs))
 
     -- behind an element's mark: what is found from here on is what is found from the beginning
     abbrev pub Ending : Bool → Bool → ℕ → Type 0
-    Ending opened parted at = end_on s (held_by opened parted) at (drop at bs) ≡ wanted
+    Ending opened parted at = end_on s (held_by opened parted) at (drop at bs) ≡ end_on s Opened from (drop from bs)
 
-    pub ending_out : (opened parted : Bool) (at : ℕ) → length bs ≤ at → Ending opened parted at → None ≡ wanted
-    ending_out opened parted at h i = sym (end_out (held_by opened parted) at h) ∙ i
+    pub ending_out : (opened parted : Bool) (at : ℕ) → length bs ≤ at → Ending opened parted at → length bs ≡ wanted
+    ending_out opened parted at h i = ap (or_length bs) (sym (end_out (held_by opened parted) at h) ∙ i)
 
     -- text up to the end
-    pub ending_none : (opened parted : Bool) (next : ℕ) → Ending opened parted next → PassedOrEnd s bs next None → None ≡ wanted
-    ending_none opened parted next j p = sym (p opened parted) ∙ j
+    pub ending_none : (opened parted : Bool) (next at : ℕ) → Ending opened parted next → Passed s bs next at → length bs ≤ at → length bs ≡ wanted
+    ending_none opened parted next at j p h =
+        ap (or_length bs) (sym (p.same opened parted ∙ end_out (held_by (opened_by next at opened) (marked_by s bs next at parted)) at h) ∙ j)
 
     -- text has been passed from `next` on, and at `at` something else stands
     module _ (was-opened was-parted : Bool) (next at : ℕ) (j : Ending was-opened was-parted next) (p : Passed s bs next at) (h : at < length bs) where
@@ -285,24 +283,24 @@ module _ (s : Service) (bs : List ℕ) where
           pub ending_element : marked ≡ false → Ending true false (at + 1)
           ending_element e = ending-on Element true false is (held_element opened parted ∙ ap (λ (x : Bool). pick x Dead Opened) (sym m ∙ e))
 
-          pub ending_parted : marked ≡ true → None ≡ wanted
-          ending_parted e = ending-by Element Dead is (held_element opened parted ∙ ap (λ (x : Bool). pick x Dead Opened) (sym m ∙ e))
+          pub ending_parted : marked ≡ true → length bs ≡ wanted
+          ending_parted e = ap (or_length bs) (ending-by Element Dead is (held_element opened parted ∙ ap (λ (x : Bool). pick x Dead Opened) (sym m ∙ e)))
 
         -- and so may the segment
         module _ (marked : Bool) (m : marked ≡ marked_by s bs next at (was-opened || was-parted)) (is : kind ≡ Terminator) where
-          pub ending_found : marked ≡ false → Some at ≡ wanted
+          pub ending_found : marked ≡ false → at ≡ wanted
           ending_found e =
-              ending-by Terminator Start is (held_terminator opened parted ∙ ap (λ (x : Bool). pick x Dead Start) (either ∙ sym m ∙ e))
+              ap (or_length bs) (ending-by Terminator Start is (held_terminator opened parted ∙ ap (λ (x : Bool). pick x Dead Start) (either ∙ sym m ∙ e)))
 
-          pub ending_marked : marked ≡ true → None ≡ wanted
+          pub ending_marked : marked ≡ true → length bs ≡ wanted
           ending_marked e =
-              ending-by Terminator Dead is (held_terminator opened parted ∙ ap (λ (x : Bool). pick x Dead Start) (either ∙ sym m ∙ e))
+              ap (or_length bs) (ending-by Terminator Dead is (held_terminator opened parted ∙ ap (λ (x : Bool). pick x Dead Start) (either ∙ sym m ∙ e)))
 
         pub ending_plain : kind ≡ Plain → Ending false false (at + 1)
         ending_plain is = ending-on Plain false false is (held_plain opened parted)
 
-        pub ending_bad : kind ≡ Other → None ≡ wanted
-        ending_bad is = ending-by Other Dead is (held_other opened parted)
+        pub ending_bad : kind ≡ Other → length bs ≡ wanted
+        ending_bad is = ap (or_length bs) (ending-by Other Dead is (held_other opened parted))
 
         -- a release: the byte behind it decides
         behind-release : kind ≡ Release → end_on s Released (at + 1) (drop (at + 1) bs) ≡ end_on s Opened from (drop from bs)
@@ -319,8 +317,9 @@ module _ (s : Service) (bs : List ℕ) where
             go true false a b c = absurd (true≢false (sym c))
             go false y a b c = absurd (true≢false (sym c))
 
-        pub ending_unreleased : kind ≡ Release → (ltb (at + 1) (length bs) && must_release s (get_or bs (at + 1) 0)) ≡ false → None ≡ wanted
-        ending_unreleased is e = sym (go (ltb (at + 1) (length bs)) (must_release s (get_or bs (at + 1) 0)) refl refl e) ∙ behind-release is
+        pub ending_unreleased : kind ≡ Release → (ltb (at + 1) (length bs) && must_release s (get_or bs (at + 1) 0)) ≡ false → length bs ≡ wanted
+        ending_unreleased is e =
+            ap (or_length bs) (sym (go (ltb (at + 1) (length bs)) (must_release s (get_or bs (at + 1) 0)) refl refl e) ∙ behind-release is)
           where
             go : (x y : Bool) → ltb (at + 1) (length bs) ≡ x → must_release s (get_or bs (at + 1) 0) ≡ y → (x && y) ≡ false
                 → end_on s Released (at + 1) (drop (at + 1) bs) ≡ None
@@ -333,9 +332,25 @@ module _ (s : Service) (bs : List ℕ) where
 
   module _ (at : ℕ) (h : at + 4 ≤ length bs) (tag : segment_end s bs at ≡ end_on s Tagged (at + 3) (drop (at + 3) bs))
       (kind : Kind) (k : kind ≡ kind_of s (get_or bs (at + 3) 0)) where
-    pub tagged_opened : kind ≡ Element → (end : Option ℕ) → end ≡ end_on s Opened (at + 4) (drop (at + 4) bs) → end ≡ segment_end s bs at
-    tagged_opened is end e =
-        e ∙ sym (tag ∙ end_turn Tagged Opened (at + 3) (omega arith) (ap after_tagged (sym k ∙ is)) ∙ end_at Opened (at + 3 + 1) (at + 4) (omega arith))
+    -- behind the mark that opens the first element: what is found, by its number
+    module _ (is : kind ≡ Element) (n : ℕ) (e : n ≡ or_length bs (end_on s Opened (at + 4) (drop (at + 4) bs))) where
+      on-opened : segment_end s bs at ≡ end_on s Opened (at + 4) (drop (at + 4) bs)
+      on-opened =
+          tag ∙ end_turn Tagged Opened (at + 3) (omega arith) (ap after_tagged (sym k ∙ is)) ∙ end_at Opened (at + 3 + 1) (at + 4) (omega arith)
+
+      -- the terminator's place, which is less than the length; or the length, which is no terminator's place
+      told : (end : Option ℕ) → end_on s Opened (at + 4) (drop (at + 4) bs) ≡ end → (n < length bs → Some n ≡ end) × (length bs ≤ n → None ≡ end)
+      told (Some end) i =
+          let w = end_on_within s Opened (at + 4) end (drop (at + 4) bs) i in
+          let j : n ≡ end = e ∙ ap (or_length bs) i in
+          (λ l. ap Some j, λ l. let x = w.inside in absurd (omega (arith, length-drop (at + 4) bs)))
+      told None i = let j : n ≡ length bs = e ∙ ap (or_length bs) i in (λ l. absurd (omega arith), λ l. refl)
+
+      pub tagged_opened : n < length bs → Some n ≡ segment_end s bs at
+      tagged_opened l = (told (segment_end s bs at) (sym on-opened)).0 l
+
+      pub tagged_unended : length bs ≤ n → None ≡ segment_end s bs at
+      tagged_unended l = (told (segment_end s bs at) (sym on-opened)).1 l
 
     pub tagged_found : kind ≡ Terminator → Some (at + 3) ≡ segment_end s bs at
     tagged_found is = sym (tag ∙ end_turn Tagged Start (at + 3) (omega arith) (ap after_tagged (sym k ∙ is)))
@@ -391,7 +406,7 @@ module _ (bs : List ℕ) (at : ℕ) where
 
 pub ruleset tag_steps = (tag_short, tag_bad_first, tag_bad_second, tag_third)
 
-pub ruleset tagged_steps = (tag_there, tag_missing, tagged_opened, tagged_found, tagged_bad)
+pub ruleset tagged_steps = (tag_there, tag_missing, tagged_opened, tagged_unended, tagged_found, tagged_bad)
 
 pub ruleset ending_steps =
     (ending_none, ending_component, ending_element, ending_parted, ending_found, ending_marked, ending_released, ending_unreleased, ending_plain, ending_bad, ending_out)

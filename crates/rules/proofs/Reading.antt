@@ -6,7 +6,7 @@ use Rattle.guide.specs.meaning.Guide.{Guide}
 use Rattle.guide.specs.meaning.View.{in_use, row_numbered}
 use Rattle.rules.specs.meaning.Conditions.{told, is_unknown}
 use Rattle.rules.specs.meaning.Rows.{condition_number, conditions_of}
-use Rattle.rules.specs.method.Conditions.{said_of}
+use Rattle.rules.specs.method.Conditions.{known}
 use Rattle.rules.specs.method.Scanning.{guessed, joined, reading, read_row, first_unknown}
 
 -- so many values of a function, from k on
@@ -101,14 +101,14 @@ unfolding values_from
 lowest_all cs g r = refl
 
 -- what is said of an unknown condition is none, and of no other
-pub unknown_said : (cs : List ℕ) (k : ℕ) → is_some (said_of cs k) ≡ false → is_unknown cs k ≡ true
+pub unknown_said : (cs : List ℕ) (k : ℕ) → is_some (known cs k) ≡ false → is_unknown cs k ≡ true
 unknown_said cs k = go (is_unknown cs k)
   where
     go : (b : Bool) → is_some (cond b None (Some (told cs k))) ≡ false → b ≡ true
     go true e = refl
     go false e = absurd (cc)
 
-pub known_said : (cs : List ℕ) (k : ℕ) → is_some (said_of cs k) ≡ true → is_unknown cs k ≡ false
+pub known_said : (cs : List ℕ) (k : ℕ) → is_some (known cs k) ≡ true → is_unknown cs k ≡ false
 known_said cs k = go (is_unknown cs k)
   where
     go : (b : Bool) → is_some (cond b None (Some (told cs k))) ≡ true → b ≡ false

@@ -52,7 +52,7 @@ fn lowest_unknown(book: &[u8], row: u32, conditions: &[u8]) -> Option<u32>
             return None;
         }
         let condition = literal % NEGATED;
-        if conditions::said_of(conditions, condition).is_none() {
+        if conditions::known(conditions, condition).is_none() {
             return Some(condition);
         }
     }

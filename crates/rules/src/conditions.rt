@@ -1,6 +1,7 @@
 // What the caller says of the conditions.
 ghost use Rattle.std.specs.Prelude.{◌≡◌};
-ghost use Rattle.rules.specs.method.Conditions.{are_truth_values, said_of};
+ghost use Rattle.rules.specs.meaning.Conditions.{said};
+ghost use Rattle.rules.specs.method.Conditions.{are_truth_values, known};
 ghost use Rattle.rules.specs.method.Scanning.{guessed};
 
 use guide::words::NEGATED;
@@ -17,14 +18,21 @@ pub fn are_truth_values(conditions: &[u8]) -> bool
     conditions.iter().all(|&said| said <= 2)
 }
 
-// Whether a condition is true, where that is known; one that the caller does not name is false.
-pub fn said_of(conditions: &[u8], condition: u32) -> Option<bool>
-    ensures { result ≡ said_of conditions.now condition }
+// 0 false, 1 true, 2 unknown; a condition that the caller does not name is 0.
+pub fn said_of(conditions: &[u8], condition: u32) -> u32
+    ensures { result ≡ said conditions.now condition }
 {
     if condition == 0 {
-        return Some(false);
+        return 0;
     }
-    match slices::byte_at(conditions, condition as usize - 1) {
+    slices::byte_at(conditions, condition as usize - 1)
+}
+
+// Whether a condition is true, where that is known.
+pub fn known(conditions: &[u8], condition: u32) -> Option<bool>
+    ensures { result ≡ known conditions.now condition }
+{
+    match said_of(conditions, condition) {
         UNKNOWN => None,
         said => Some(said == TRUE),
     }
@@ -35,7 +43,7 @@ pub fn said_of(conditions: &[u8], condition: u32) -> Option<bool>
 pub fn read_literal(conditions: &[u8], literal: u32, guess: bool) -> bool
     ensures { result ≡ guessed conditions.now guess literal }
 {
-    match said_of(conditions, literal % NEGATED) {
+    match known(conditions, literal % NEGATED) {
         Some(value) => value != (literal >= NEGATED),
         None => guess,
     }

@@ -1,9 +1,10 @@
 -- Numbers put into a lent table one after the other are as many of them as fit.
-use Prim.Native.Nat.{ℕ, suc, ◌+◌}
+use Prim.Native.Nat.{ℕ, zero, suc, ◌+◌}
 use native.Mathlib.Omega.{arith}
 use mathlib.Core.Path.{◌≡◌, refl, sym, ap, ◌∙◌, subst}
 use mathlib.Core.List.{List, [], ◌∷◌, ◌++◌, append-nil, append_assoc}
-use lib.ListN.{length, set, length-append}
+use lib.ListN.{length, set, take, drop, length-append}
+use Rattle.std.proofs.Common.{min}
 use Rattle.slices.specs.meaning.Lent.{as_many_as_fit}
 
 -- numbers put one after the other, the first at this place
@@ -33,3 +34,13 @@ puts_behind front (number ∷ numbers) table before after e (next, f, p) =
 pub puts_fit : (numbers before after : List ℕ) → Puts 0 numbers before after → after ≡ as_many_as_fit numbers before
 unfolding as_many_as_fit
 puts_fit numbers before after p = puts_behind [] numbers before before after refl p
+
+-- a copy into the front of a table, as long as both reach
+pub front_fits : (numbers table : List ℕ) (k : ℕ) → k ≡ min (length numbers) (length table) → take k numbers ++ drop k table ≡ as_many_as_fit numbers table
+unfolding as_many_as_fit
+front_fits [] table zero e = refl
+front_fits [] table (suc k) e = absurd (omega arith)
+front_fits (x ∷ numbers) [] zero e = refl
+front_fits (x ∷ numbers) [] (suc k) e = absurd (omega arith)
+front_fits (x ∷ numbers) (y ∷ table) zero e = absurd (omega arith)
+front_fits (x ∷ numbers) (y ∷ table) (suc k) e = ap (◌∷◌ x) (front_fits numbers table k (omega arith))

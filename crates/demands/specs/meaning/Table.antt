@@ -13,9 +13,8 @@ use Rattle.guide.specs.meaning.Plan.{plan_in}
 use Rattle.placing.specs.meaning.Fitting.{homes_in}
 use Rattle.placing.specs.meaning.Placement.{Placed, Stops, parents_of}
 use Rattle.placing.specs.meaning.Answers.{HaveHomes, FirstWithout}
-use Rattle.fields.specs.meaning.Fields.{In, LeastFault}
+use Rattle.fields.specs.meaning.Fields.{In, LeastFault, at_fault}
 use Rattle.std.specs.Prelude.{Ok}
-use Rattle.fields.specs.method.Testing.{at_fault}
 use Rattle.rules.specs.meaning.Conditions.{is_unknown}
 use Rattle.rules.specs.meaning.Entries.{Entry, entries_of, SomeBreaks, EveryBreaks}
 use Rattle.rules.specs.meaning.Identifiers.{identifier_value}

@@ -57,6 +57,9 @@ pub data Before (e' c' e c : ℕ) : Type 0 where
   sooner : e' < e → Before e' c' e c
   beside : e' ≡ e → c' < c → Before e' c' e c
 
+abbrev pub at_fault : ℕ → ℕ → Result (Unit {0}) Fault
+at_fault e c = Err (record { element = e; component = c })
+
 -- 01, number 12: "the smallest (element, component) at fault there"
 abbrev pub LeastFault : Service → List Field → Values → Result (Unit {0}) Fault → Type 0
 LeastFault s fs v (Err x) = Faulty s fs v x.element x.component × ((e' c' : ℕ) → Before e' c' x.element x.component → Faulty s fs v e' c' → ⊥)

@@ -61,9 +61,14 @@ pub record Reads (s : Service) (bs part behind : List ℕ) : Type 0 where
   pub whole : bs ≡ part ++ behind
   pub cuts : cut s false bs ≡ pieces part (behind_component s behind) (further_behind s behind)
 
+-- what is left of bs behind some of its bytes
+pub record Tail (bs behind : List ℕ) : Type 0 where
+  pub passed : List ℕ
+  pub whole : bs ≡ passed ++ behind
+
 -- what stands behind the element at the front of bs, or behind what stands between the tag and the first: the further elements
 pub record Ends (s : Service) (bs behind : List ℕ) : Type 0 where
-  pub shorter : length behind ≤ length bs
+  pub tail : Tail bs behind
   pub further : further_in (cut s false bs) ≡ behind_element s behind
 
 -- ---- fields that have been tested
@@ -79,16 +84,20 @@ abbrev pub tested_by : Result (Range ℕ) Fault → Tested
 tested_by (Err x) = broken x.component
 tested_by (Ok left) = kept (fields_in left)
 
+-- of the fields that were left none is passed beyond the last
+abbrev pub Within : Range ℕ → Range ℕ → Type 0
+Within fields left = fields.start ≤ fields.end → (left.start ≤ left.end) × (left.end ≡ fields.end)
+
 -- a fault is one of the element e, and its component is not beyond the n-th
-abbrev pub FaultWithin : ℕ → ℕ → Result (Range ℕ) Fault → Type 0
-FaultWithin e n (Err x) = (x.element ≡ e) × (x.component ≤ n)
-FaultWithin e n (Ok left) = Unit {0}
+abbrev pub FaultWithin : ℕ → ℕ → Range ℕ → Result (Range ℕ) Fault → Type 0
+FaultWithin e n fields (Err x) = (x.element ≡ e) × (x.component ≤ n)
+FaultWithin e n fields (Ok left) = Within fields left
 
 -- ---- the element e at the front of bs that has been tested
 
-abbrev pub ClosesBy : Service → List ℕ → ℕ → Result Closed Fault → Type 0
-ClosesBy s bs e (Err x) = (x.element ≡ e) × Near (length bs) x.component
-ClosesBy s bs e (Ok x) = Ends s bs x.behind.now
+abbrev pub ClosesBy : Service → List ℕ → ℕ → Range ℕ → Result Closed Fault → Type 0
+ClosesBy s bs e fields (Err x) = (x.element ≡ e) × Near (length bs) x.component
+ClosesBy s bs e fields (Ok x) = Ends s bs x.behind.now × Within fields x.left
 
 abbrev pub when_closed : Result Closed Fault → (Range ℕ → Tested) → Tested
 when_closed (Err x) more = broken x.component

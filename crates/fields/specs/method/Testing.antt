@@ -9,6 +9,7 @@ use Rattle.reading.specs.meaning.Component.{value_of}
 use Rattle.reading.specs.declared.service.Service.{Service}
 use Rattle.fields.specs.method.Number.{is_number}
 use Rattle.fields.specs.meaning.Number.{figures}
+use Rattle.fields.specs.meaning.Fields.{at_fault}
 use Rattle.fields.specs.method.Parts.{Raw, cut, further_in, has_bytes, any_bytes}
 use Rattle.fields.specs.declared.fault.Fault.{Fault}
 use Rattle.fields.specs.declared.passes.FirstFault.{FirstFault}
@@ -81,9 +82,6 @@ abbrev pub test_element : Service → Guide → ℕ → List Raw → List ℕ �
 test_element s g e xs fs = test_components s g (any_bytes xs) e 1 xs fs
 
 -- ---- the elements of a segment
-
-abbrev pub at_fault : ℕ → ℕ → Result (Unit {0}) Fault
-at_fault e c = Err (record { element = e; component = c })
 
 abbrev pub then_fault : ℕ → Tested → (List ℕ → Result (Unit {0}) Fault) → Result (Unit {0}) Fault
 then_fault e (broken c) more = at_fault e c

@@ -2,7 +2,8 @@
 use Rattle.std.specs.Prelude.{ℕ, suc, ◌+◌, ◌<◌, ◌≡◌, List, Result, Ok, Err, length, get_or}
 use Rattle.guide.specs.meaning.Guide.{Guide}
 use Rattle.reading.specs.declared.service.Service.{Service}
-use Rattle.fields.specs.method.Testing.{at_fault, fault_at}
+use Rattle.fields.specs.meaning.Fields.{at_fault}
+use Rattle.fields.specs.method.Testing.{fault_at}
 use Rattle.fields.specs.declared.passes.FirstFault.{FirstFault}
 
 -- what each answer says, k segments standing before these: each segment is tested against its own line, and none before the first

@@ -1,5 +1,5 @@
 -- What one function of the code keeps for another: no definition of 01's, and no promise of a public call.
-use Rattle.std.specs.Prelude.{ℕ, ◌+◌, ◌-◌, ◌≤◌, ◌<◌, ◌≡◌, List, Bool, true, false, eqb, ltb, length, drop, get_or, Option, Some, None}
+use Rattle.std.specs.Prelude.{ℕ, ◌+◌, ◌-◌, ◌≤◌, ◌≡◌, List, Bool, true, false, eqb, ltb, length, drop, get_or, Option, None, unwrap_or}
 use Rattle.reading.specs.method.Machine.{pick, end_on, segment_end}
 use Rattle.reading.specs.declared.service.Service.{Service}
 use Rattle.reading.specs.declared.machine.State.{State}
@@ -23,13 +23,12 @@ opened_by from at was = pick (ltb from at) false was
 abbrev pub marked_by : Service → List ℕ → ℕ → ℕ → Bool → Bool
 marked_by s bs from at was = pick (ltb from at) (eqb (get_or bs (at - 1) 0) s.component) was
 
+-- a segment's end as a number: the length of the bytes, which is no end, for none
+abbrev pub or_length : List ℕ → Option ℕ → ℕ
+or_length bs end = unwrap_or end (length bs)
+
 -- from an offset up to another there is only text: what is found from the one on is found from the other on
 pub record Passed (s : Service) (bs : List ℕ) (from at : ℕ) : Type 0 where
   pub onward : from ≤ at
   pub same : (opened parted : Bool)
       → end_on s (held_by opened parted) from (drop from bs) ≡ end_on s (held_by (opened_by from at opened) (marked_by s bs from at parted)) at (drop at bs)
-
--- text ends within the bytes; or it goes on to their end, and so does the segment that it stands in
-abbrev pub PassedOrEnd : Service → List ℕ → ℕ → Option ℕ → Type 0
-PassedOrEnd s bs from (Some at) = Passed s bs from at × (at < length bs)
-PassedOrEnd s bs from None = (opened parted : Bool) → end_on s (held_by opened parted) from (drop from bs) ≡ None

@@ -8,5 +8,5 @@ abbrev pub are_truth_values : List ℕ → Bool
 are_truth_values cs = list_all (λ c. leb c 2) cs
 
 -- what is said of a condition, none where it is unknown
-abbrev pub said_of : List ℕ → ℕ → Option Bool
-said_of cs k = cond (is_unknown cs k) None (Some (told cs k))
+abbrev pub known : List ℕ → ℕ → Option Bool
+known cs k = cond (is_unknown cs k) None (Some (told cs k))

@@ -8,4 +8,4 @@ use Rattle.book.proofs.Tables.{MarkedFrom}
 use Rattle.book.proofs.homes.marks_of.Given as goal
 
 abbrev pub invariant-loop-code : goal.invariant-loop-code
-invariant-loop-code l = (l.first + l.count ≤ (guide_of l.codes.book.now).codes) × (length l.marks ≡ 8192) × MarkedFrom (guide_of l.codes.book.now) l.codes.numbers l.marks l.first (l.code - l.first)
+invariant-loop-code l = (l.first + l.count ≤ (guide_of l.codes.book.now).codes) × (length l.marks ≡ 8192) × MarkedFrom (guide_of l.codes.book.now) l.codes.numbers.now l.marks l.first (l.code - l.first)

@@ -9,5 +9,5 @@ loop-left-smaller c = next_smaller c.args.service c.loop-left.rest.now c.split_c
 pub loop-left-preserved : goal.loop-left-preserved
 loop-left-preserved c =
     going_on c.args.service (guide_of c.args.book.now) c.args.rest.now c.args.some c.args.element c.args.left c.loop-left.component c.loop-left.rest.now
-    c.split_component.result.0.now c.split_component.result.1.now c.loop-left.left c.loop-left.invariant c.split_component.ensures c.in_ok-left.left c.in_ok-left.ensures.value
+    c.split_component.result.0.now c.split_component.result.1.now c.loop-left.left c.loop-left.invariant c.split_component.ensures c.in_ok-left.left c.in_ok-left.ensures.within c.in_ok-left.ensures.value
     c.in-Some.next.now c.in-Some.ensures

@@ -18,7 +18,7 @@ returns c =
     let others = not_among_rule (guide_of c.args.self.now.codes.now.book.now) c.args.self.now.line in
     let first = c.first_code-first.result in
     let count = c.code_count-count.result in
-    let unmarked : ℕ → Bool = λ (code : ℕ). not (get_or c.args.self.now.marks (get_or c.args.self.now.codes.now.numbers code 0) false) in
+    let unmarked : ℕ → Bool = λ (code : ℕ). not (get_or c.args.self.now.marks (get_or c.args.self.now.codes.now.numbers.now code 0) false) in
     all_asked unmarked first (first + count) count _ _ c.all.result c.all.ensures.ran (omega arith) (λ x b q k. search (rules, tests))
     ∙ all_alike unmarked (λ (code : ℕ). run (others code)) count first (λ code a b. c.args.self.now.marked.free code (omega (arith, c.requires, c.first_code-first.ensures.0, c.code_count-count.ensures.0)))
     ∙ ap₂ (λ (x n : ℕ). run (every x n others)) c.first_code-first.ensures.0 c.code_count-count.ensures.0
