@@ -125,6 +125,9 @@ pub fn homes_are_good(book: &[u8]) -> bool
     ensures { result ≡ run (homes_rule (guide_of book.now)) }
 {
     let numbers = numbers_of(book);
-    let codes = Codes::of(book, &numbers);
+    let codes = Codes {
+        book,
+        numbers: &numbers,
+    };
     (1..layout::lines(book) + 1).all(|line| has_one_home(&codes, line))
 }

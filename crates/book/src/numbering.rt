@@ -55,13 +55,6 @@ pub struct Codes<'a> {
 }
 
 impl<'a> Codes<'a> {
-    pub fn of(book: &'a [u8], numbers: &'a Numbers) -> Codes<'a>
-        requires { Numbered (guide_of book.now) numbers.now }
-        ensures { result.book.now ≡ book.now }
-    {
-        Codes { book, numbers }
-    }
-
     // The number of a code, which is a place in a table.
     #[tactic(auto, using(crate::proofs::Tables::in_table))]
     pub fn number_of(&self, code: u32) -> usize
