@@ -1,16 +1,19 @@
 -- What the functions that test one field ask of its bytes: whether there are any, and how many count.
 use Prim.Native.Nat.{ℕ, suc, ◌+◌, ◌-◌, ◌≤◌, ◌<◌}
 use native.Mathlib.Omega.{arith}
-use native.Mathlib.Decide.{dec_lt}
-use mathlib.Core.Path.{◌≡◌, refl, sym, ap, ap₂, ◌∙◌}
+use mathlib.Core.Path.{◌≡◌, refl, sym, ap, ◌∙◌}
 use mathlib.Core.List.{[], ◌∷◌}
-use mathlib.Core.Logic.{dite}
 use mathlib.Core.Bool.{Bool, true, false, cond, not, ◌&&◌, ◌||◌}
 use lib.Dec.{eqb, leb}
-use native.Mathlib.Numerals.{add-one}
-use lib.ListN.{length, get_or, drop, drop_of_length-le, length-drop}
-use lib.Seq.{drop-cons}
-use borrow.Author.Tests.{eq-eqb, ne_eqb, le-leb}
+use Rattle.std.specs.Prelude.{Option, Some, None}
+use Rattle.std.specs.List.{position, position_from}
+use Rattle.std.specs.Option.{unwrap_or}
+use Rattle.std.proofs.lemmas.Option.{none-some}
+use Rattle.std.proofs.lemmas.List.{take_rest}
+use Rattle.std.proofs.lemmas.Iterator.Adapters.{position_from-zero}
+use lib.ListN.{length, take, drop, drop_of_length-le, length-drop}
+use lib.Seq.{drop-drop}
+use borrow.Author.Tests.{le-leb}
 use Rattle.guide.specs.meaning.Guide.{Guide}
 use Rattle.reading.specs.meaning.Component.{value_from, kept_or_released, value_of}
 use Rattle.reading.specs.declared.service.Service.{Service}
@@ -65,52 +68,79 @@ module _ (s : Service) where
       go true n p q = omega arith
       go false n p q = omega arith
 
-  -- of the bytes so far so many release the next, and the others stand in the value; a byte that is released has been passed with its release
-  pub record Measuring (x : Raw) (releases at : ℕ) : Type 0 where
-    pub few : releases ≤ at
-    pub within : releases ≤ length x
-    pub same : length x + length (value_from s false (drop at x)) ≡ releases + length (value_of s x) + length (drop at x)
+  -- so many of the bytes before what is left release the next; the others of them stand in the value
+  pub record Measuring (x : Raw) (releases : ℕ) (rest : Raw) : Type 0 where
+    pub few : releases + length rest ≤ length x
+    pub same : length x + length (value_from s false rest) ≡ releases + length (value_of s x) + length rest
+
+  -- such a byte releases the next, where it is not released itself
+  abbrev releasing : ℕ → Bool
+  releasing b = eqb b s.release
+
+  -- a byte releases the next, which may be missing: of the bytes up to that one all but one stand in the value
+  record Jumped (x : Raw) (at : ℕ) : Type 0 where
+    within : at < length x
+    same : length (value_from s false x) + length (drop (suc (suc at)) x) + 1 ≡ length (value_from s false (drop (suc (suc at)) x)) + length x
+
+  -- the byte that is released, which may be missing
+  released : (x : Raw) → length (value_from s true x) + length (drop 1 x) ≡ length (value_from s false (drop 1 x)) + length x
+  released [] = let n = value_none true in let m = value_none false in omega arith
+  released (b ∷ bs) = let n = value_next true b bs in omega arith
+
+  jumped : (k at : ℕ) (x : Raw) → position_from releasing k x ≡ Some at → (i : ℕ) × (at ≡ k + i) × Jumped x i
+  jumped k at [] e = absurd (none-some _ e)
+  jumped k at (b ∷ bs) e = go (releasing b) (value_next false b bs) (jumped (k + 1) at bs) e
+    where
+      go : (t : Bool) → length (value_from s false (b ∷ bs)) ≡ cond t (length (value_from s true bs)) (suc (length (value_from s false bs)))
+          → (position_from releasing (k + 1) bs ≡ Some at → (i : ℕ) × (at ≡ k + 1 + i) × Jumped bs i)
+          → cond t (Some k) (position_from releasing (k + 1) bs) ≡ Some at → (i : ℕ) × (at ≡ k + i) × Jumped (b ∷ bs) i
+      go true n further e = let r = released bs in let h = ap (λ (o : Option ℕ). unwrap_or o 0) e in (0, omega arith, record { within = omega arith; same = omega arith })
+      go false n further e =
+          let found = further e in
+          let h = found.1 in let w = found.2.within in let g = found.2.same in
+          (suc found.0, omega arith, record { within = omega arith; same = omega arith })
+
+  none_left : (k : ℕ) (x : Raw) → position_from releasing k x ≡ None → length (value_from s false x) ≡ length x
+  none_left k [] e = value_none false
+  none_left k (b ∷ bs) e = go (releasing b) (value_next false b bs) (none_left (k + 1) bs) e
+    where
+      go : (t : Bool) → length (value_from s false (b ∷ bs)) ≡ cond t (length (value_from s true bs)) (suc (length (value_from s false bs)))
+          → (position_from releasing (k + 1) bs ≡ None → length (value_from s false bs) ≡ length bs)
+          → cond t (Some k) (position_from releasing (k + 1) bs) ≡ None → length (value_from s false (b ∷ bs)) ≡ length (b ∷ bs)
+      go true n further e = absurd (none-some _ (sym e))
+      go false n further e = let m = further e in omega arith
 
   module _ (x : Raw) where
-    abbrev left : Bool → ℕ → ℕ
-    left released at = length (value_from s released (drop at x))
+    pub measuring_begin : Measuring x 0 x
+    measuring_begin = record { few = omega arith; same = omega arith }
 
-    next-left : (released : Bool) (at : ℕ) → at < length x → (t : Bool) → (not released && eqb (get_or x at 0) s.release) ≡ t
-        → left released at ≡ cond t (left true (at + 1)) (suc (left false (at + 1)))
-    next-left released at h t e =
-        ap (λ (l : Raw). length (value_from s released l)) (drop-cons x at 0 h) ∙ value_next released (get_or x at 0) (drop (suc at) x)
-        ∙ ap₂ (λ (u : Bool) (n : ℕ). cond u (left true n) (suc (left false n))) e (sym (add-one at))
+    module _ (releases : ℕ) (rest : Raw) (i : Measuring x releases rest) where
+      module _ (at : ℕ) (e : position releasing rest ≡ Some at) where
+        on : Measuring x (releases + 1) (drop (suc (suc at)) rest)
+        on =
+            let j = jumped 0 at rest (sym (position_from-zero releasing rest) ∙ e) in
+            let h : at ≡ j.0 = omega (arith, j.1) in
+            let w = j.2.within in let g = j.2.same in let f = i.few in let m = i.same in let d = length-drop (suc (suc j.0)) rest in
+            rw h (record { few = omega arith; same = omega arith })
 
-    none-left : (released : Bool) (at : ℕ) → length x ≤ at → left released at ≡ 0
-    none-left released at h = ap (λ (l : Raw). length (value_from s released l)) (drop_of_length-le x h) ∙ value_none released
+        -- the byte that releases another, and what stands behind it
+        abbrev from : Raw
+        from = take (length rest - at) (drop at rest)
 
-    pub measuring_begin : Measuring x 0 0
-    measuring_begin = record { few = omega arith; within = omega arith; same = omega arith }
+        pub measuring_two : Measuring x (releases + 1) (take (length from - 2) (drop 2 from))
+        measuring_two =
+            let two : at + 2 ≡ suc (suc at) = omega arith in
+            rw (take_rest from 2 ∙ ap (drop 2) (take_rest rest at) ∙ drop-drop 2 at rest ∙ ap (λ (n : ℕ). drop n rest) two) on
 
-    pub measuring_done : (releases at : ℕ) → length x ≤ at → Measuring x releases at → length x - releases ≡ length (value_of s x)
-    measuring_done releases at h i =
-        let n = none-left false at h in let d = length-drop at x in let g = i.same in omega arith
+        pub measuring_last : length from < 2 → Measuring x (releases + 1) []
+        measuring_last h =
+            let n = length-drop at rest in
+            let k = ap length (take_rest rest at) in
+            let short : length rest ≤ suc (suc at) = omega arith in
+            rw (sym (drop_of_length-le rest short)) on
 
-    module _ (releases at : ℕ) (h : at < length x) (i : Measuring x releases at) where
-      -- a release and the byte behind it, which may be missing
-      pub measuring_pair : get_or x at 0 ≡ s.release → Measuring x (releases + 1) (at + 1 + 1)
-      measuring_pair e =
-          let n = next-left false at h true (eq-eqb (get_or x at 0) s.release e) in
-          let d = length-drop at x in let d2 = length-drop (at + 1 + 1) x in
-          let f = i.few in let g = i.same in
-          record {
-            few = omega arith;
-            within = omega arith;
-            same = dite (dec_lt (at + 1) (length x)) (λ b. let m = next-left true (at + 1) b false refl in omega arith)
-                (λ b. let m = none-left true (at + 1) (omega arith) in let k = none-left false (at + 1 + 1) (omega arith) in omega arith);
-          }
-
-      pub measuring_plain : (get_or x at 0 ≡ s.release → ⊥) → Measuring x releases (at + 1)
-      measuring_plain e =
-          let n = next-left false at h false (ne_eqb (get_or x at 0) s.release e) in
-          let d = length-drop at x in let d1 = length-drop (at + 1) x in
-          let f = i.few in let w = i.within in let g = i.same in
-          record { few = omega arith; within = omega arith; same = omega arith }
+      pub measuring_done : position releasing rest ≡ None → length x - releases ≡ length (value_of s x)
+      measuring_done e = let n = none_left 0 rest (sym (position_from-zero releasing rest) ∙ e) in let f = i.few in let g = i.same in omega arith
 
 module _ (g : Guide) (f : ℕ) (s : Service) (x : Raw) (l : ℕ) (e : l ≡ g.longest f) where
   pub short_text : length x ≤ l → true ≡ leb (length (value_of s x)) (g.longest f)

@@ -1,5 +1,5 @@
 // The components of a segment as they are written: the only place that reads a segment's bytes one by one.
-ghost use Rattle.std.specs.Prelude.{◌≡◌, true, false, length, drop, MatchOption};
+ghost use Rattle.std.specs.Prelude.{◌≡◌, ◌==◌, true, false, length, drop, position, MatchOption};
 ghost use Rattle.fields.specs.method.Parts.{cut, components_in, any_bytes};
 ghost use Rattle.reading.specs.meaning.Component.{value_of};
 ghost use Rattle.fields.specs.method.Kept.{opens, Reads, Ends};
@@ -30,20 +30,28 @@ pub fn split_component(service: Service, rest: &[u8]) -> (&[u8], &[u8])
     (rest, &[])
 }
 
+// Where the next byte that releases another stands, if one does.
+fn next_release(service: Service, rest: &[u8]) -> Option<usize>
+    ensures { result ≡ position (λ byte. byte == service.release) rest.now }
+{
+    rest.iter().position(|byte| *byte == service.release)
+}
+
 // How long a component's value is: a byte that releases the next does not count.
 #[tactic(auto, using(crate::proofs::Fitting::measuring))]
 pub fn value_length(service: Service, part: &[u8]) -> usize
     ensures { result ≡ length (value_of service part.now) }
 {
     let mut releases = 0;
-    let mut at = 0;
-    // Stays: a byte that is released is passed with its release, two at a time, as above.
-    while at < part.len() {
-        if part[at] == service.release {
-            releases += 1;
-            at += 1;
-        }
-        at += 1;
+    let mut rest = part;
+    // Stays: a byte that is released is passed with its release, if there is one. To carry a flag costs every byte, and an index that
+    // goes on by one or by two waits for every byte.
+    while let Some(at) = next_release(service, rest) {
+        releases += 1;
+        rest = match &rest[at..] {
+            [_, _, behind @ ..] => behind,
+            _ => &[],
+        };
     }
     part.len() - releases
 }

@@ -1,12 +1,9 @@
-use Rattle.fields.proofs.Fitting.{measuring_pair, measuring_plain}
+use mathlib.Core.Path.{sym}
+use Rattle.fields.proofs.Fitting.{measuring_two, measuring_last}
 use Rattle.fields.proofs.parts.value_length.Goals as goal
-use Rattle.fields.proofs.parts.value_length.Goals.{then-part-at, else-part-at}
 
 pub loop-at-preserved : goal.loop-at-preserved
-loop-at-preserved c =
-    let s = c.args.service in
-    let x = c.args.part.now in
-    elim c.if-part-at.branch [
-      | then-part-at w ↦ rw (w.releases-is, w.at-is) (measuring_pair s x c.loop-at.releases c.loop-at.at c.loop-at-test.true c.loop-at.invariant w.if-part-at.true)
-      | else-part-at w ↦ rw (w.releases-is, w.at-is) (measuring_plain s x c.loop-at.releases c.loop-at.at c.loop-at-test.true c.loop-at.invariant w.if-part-at.false)
-    ]
+loop-at-preserved c = measuring_two c.args.service c.args.part.now c.loop-at.releases c.loop-at.rest.now c.loop-at.invariant c.in-Some.at (sym c.in-Some.ensures)
+
+pub loop-at-preserved-in_default-2 : goal.loop-at-preserved-in_default-2
+loop-at-preserved-in_default-2 c = measuring_last c.args.service c.args.part.now c.loop-at.releases c.loop-at.rest.now c.loop-at.invariant c.in-Some.at (sym c.in-Some.ensures) c.in_default-2.len_below
